@@ -1,6 +1,6 @@
 # What stands around the proved crates: the C examples, the tests, the benchmarks, the installation. All that is made
-# lies under target/ (and reference/target/). The library's archive is x86-64 code on every machine; where the machine
-# is another, C is cross-compiled against it and run by the kit's emulator.
+# lies under target/ (and reference/target/). The libraries' archives are x86-64 code on every machine; where the machine
+# is another, C is cross-compiled against them and run by the kit's emulator.
 # A line that begins with `#:` is what `make help` says of the target below it.
 # make test runs its parts side by side and notes what each takes; tests/timed.sh is bash, with a clock.
 ifdef TIMES
@@ -14,6 +14,7 @@ endif
 export PYTHONDONTWRITEBYTECODE := 1
 .PHONY: help run test quick clean fmt kit pages header examples tables texts aims stores programs reference installs cited narrow bench stack installable install uninstall
 .PHONY: unsound reports moves takes cuts recipes daemon peers differential noticed soak mutants stats definitions-check cases
+.PHONY: voicemail documents parsed promises
 
 MACHINE := $(shell uname -m)
 ifeq ($(MACHINE),x86_64)
@@ -34,7 +35,10 @@ RT := mkdir -p target && flock target/rt.lock rt
 
 STRICT := -O2 -Wall -Wextra -pedantic -Werror -Iinclude
 ARCHIVE := target/staticlib/libndushavire.a
+SH_ARCHIVE := target/staticlib/libndushavire_sh.a
+ARCHIVES := $(SH_ARCHIVE) $(ARCHIVE)
 HEADER := include/ndushavire.h
+SH_HEADER := include/ndushavire_sh.h
 BINARY := reference/target/release/reference
 PROVED := crates.txt $(shell find crates -name '*.rt' -o -name '*.antt' -o -type d)
 # Over the archive, which is x86-64 code, and nothing of theirs is static: these are installed on x86-64 alone. The other two are plain C.
@@ -47,12 +51,12 @@ help:
 	@sed -n 's/^#: //p' $(firstword $(MAKEFILE_LIST))
 
 # The sample, and four answers of the program answer over it in a form to read: to a header alone, to the question where bob is, to an
-# assignment of erin's line, and to a challenge of her card. A program of the kit runs with the kit's own loader and C library, on either
-# machine.
+# assignment of erin's line, and to a challenge of her card; and what a voicemail box is told of bob. A program of the kit runs with the
+# kit's own loader and C library, on either machine.
 PROGRAM = $(RUN) $(KIT)/toolchain/lib/ld-linux-x86-64.so.2 --library-path $(KIT)/toolchain/lib
 SHOWN := examples/no-avps $(addprefix tests/captured/,icscf-20-lir scscf-12-sar mar-33)
-#: run                the sample table and vectors, checked, and four answers from them in a form to read
-run: target/c/maketable target/c99/check target/bin/answer $(BINARY)
+#: run                the sample table and vectors, checked, and five answers from them in a form to read
+run: target/c/maketable target/c99/check target/c99/userdata target/bin/answer $(BINARY)
 	@mkdir -p target/run
 	target/c/maketable table examples/households.txt >target/run/table
 	target/c/maketable profile examples/households.txt >target/run/profile
@@ -63,14 +67,17 @@ run: target/c/maketable target/c99/check target/bin/answer $(BINARY)
 	    printf %b "$$(sed '/^#/d; s/ //g; s/../\\x&/g' $$request.hex | tr -d '\n')" | \
 	        (cd target/run && $(PROGRAM) ../bin/answer) | $(BINARY) show | sed -E 's/  [0-9a-f]{8}( [0-9a-f]{2,8})*$$//'; \
 	done
+	@printf '\n%s\n' "examples/voicemail.hex: $$(sed -n 's/^# asked: //p' examples/voicemail.hex)"
+	@$(RUN) target/c99/userdata target/run/table target/run/profile examples/voicemail.hex | tail -n 1
 
 target/bin/%: $(PROVED)
 	$(RT) check $*
 	touch $@
 
 # The parts of make test, the longest first. What they need is made before, once, and what needs the archive waits for it alone.
-PARTS := stores differential daemon reference tables narrow texts examples installs recipes cited programs noticed takes pages kit fmt header aims unsound reports moves
-MADE := $(ARCHIVE) $(BINARY)
+PARTS := stores differential daemon reference tables narrow texts examples installs recipes cited programs noticed takes pages kit fmt header aims unsound reports moves \
+    documents voicemail promises
+MADE := $(ARCHIVES) $(BINARY)
 JOBS := $(shell nproc)
 #: test               every test from fmt to noticed below, as many at a time as there are processors (JOBS=N): 3 to 5 minutes on two once all is proved
 test:
@@ -98,16 +105,22 @@ pages: target/c/maketable target/c/showtable
 	tests/pages.py
 	tests/stale-pages.py target/test/pages
 
-#: header             the C header by itself, in C and in C++; the version that library, header, programs, pkg-config and README say
+#: header             the C headers by themselves, in C and in C++; the version that library, headers, programs, pkg-config and README say
 header: target/c/header target/c++/header target/c99/version
 	for header in target/c/header target/c++/header; do $$header; done
 	tests/version.sh $(RUN) target/c99/version
 
-#: examples           the C examples: worked answers, refusals, AVPs at fault, requests that real software sent, the month's numbers, moves, take-overs
-examples: $(foreach mode,c99 cxx,$(addprefix target/$(mode)/,check decide move report take)) target/c99/cut-take target/c/fault target/c++/fault target/c/maketable target/c/showtable $(BINARY)
+#: promises           whether the Sh server's crates use of the first library only what it promises; which symbols the two archives have, and none twice
+promises: $(ARCHIVES)
+	tests/promises.py
+	RUN='$(RUN)' tests/symbols.sh target/test/symbols $(ARCHIVE) $(SH_ARCHIVE) $(X86_CC)
+
+#: examples           the C examples: worked answers, refusals, AVPs at fault, requests that real software sent, a voicemail box, the month's numbers, moves, take-overs
+examples: $(foreach mode,c99 cxx,$(addprefix target/$(mode)/,check decide userdata move report take)) target/c99/cut-take target/c/fault target/c++/fault target/c/maketable target/c/showtable $(BINARY)
 	for fault in target/c/fault target/c++/fault; do $$fault; done
 	RUN='$(RUN)' tests/decide.sh target/test/decide target/c/maketable target/c99/decide target/cxx/decide
 	RUN='$(RUN)' tests/captured.sh target/test/captured target/c/maketable $(BINARY) target/c99/decide target/cxx/decide
+	RUN='$(RUN)' tests/userdata.sh target/test/userdata target/c/maketable target/c99/userdata target/cxx/userdata
 	RUN='$(RUN)' tests/report.sh target/test/report target/c/maketable target/c99/report target/cxx/report
 	RUN='$(RUN)' tests/move.sh target/test/move target/c/maketable target/c/showtable target/c99/check target/c99/move target/cxx/move
 	RUN='$(RUN)' tests/take.sh target/test/take target/c/maketable target/c99/check target/c99/cut-take target/c99/take target/cxx/take
@@ -127,9 +140,9 @@ aims: target/c/aims
 	tests/aims.sh target/test/aims target/c/aims
 
 #: stores             store.h by itself, the daemon that ndushavire(3) shows and that of the examples, on a disk that fails
-stores: target/c/store target/c++/store target/c/maketable $(ARCHIVE)
+stores: target/c/store target/c++/store target/c/maketable $(ARCHIVES)
 	for store in target/c/store target/c++/store; do rm -rf target/test/store; mkdir -p target/test/store; $$store target/test/store; done
-	RUN='$(RUN)' tests/daemon.sh target/test/daemon target/c/maketable $(ARCHIVE) $(X86_CC)
+	RUN='$(RUN)' tests/daemon.sh target/test/daemon target/c/maketable '$(ARCHIVES)' $(X86_CC)
 
 #: programs           arguments of the programs answer and tablecheck
 programs: target/bin/answer target/bin/tablecheck target/c/maketable
@@ -138,6 +151,16 @@ programs: target/bin/answer target/bin/tablecheck target/c/maketable
 #: unsound            vector files bad in one place: the check names the block, every decision is refused by 6
 unsound: target/c99/unsound
 	$(RUN) $<
+
+#: voicemail          the Sh entry by itself: each refusal and rule with the bytes of its answer, every order of the AVPs; table and profile file are only read
+voicemail: target/c99/voicemail
+	$(RUN) $<
+
+COUNT_documents := 2000
+DOCUMENTS = tests/documents.py $(SEED)
+#: documents          2,000 answers of the Sh entry, whose documents an XML parser reads as they were meant; SEED=N runs a seed again
+documents: target/c99/driver
+	$(DOCUMENTS) $(COUNT_documents) $(DRIVER)
 
 COUNT_months := 5000
 #: reports            the report beside as many decisions, over 5,000 random files of requests; SEED=N runs a seed again
@@ -161,43 +184,46 @@ takes: target/c99/takes target/c99/cuts target/c99/take target/c99/cut-take
 	$(CUT) '' target/c99/cuts target/c99/take target/c99/cut-take $(SEED) 50 20
 
 #: daemon             the daemon of the examples with a client of its own: cut frames, garbage, slow peers, new tables, kills; 1 to 3 minutes
-daemon: target/c/remember target/c/maketable $(ARCHIVE)
+daemon: target/c/remember target/c/maketable $(ARCHIVES)
 	$< $(SEED) 20000
-	RUN='$(RUN)' tests/served.sh target/test/served target/c/maketable $(ARCHIVE) $(X86_CC)
+	RUN='$(RUN)' tests/served.sh target/test/served target/c/maketable '$(ARCHIVES)' $(X86_CC)
 
 #: reference          the independent program's own tests
 reference:
 	cd reference && cargo test --offline --quiet
 
 #: installs           an installation into a folder of its own, and an example built from there as a new user would
-installs: $(ARCHIVE) $(PROGRAMS)
+installs: $(ARCHIVES) $(PROGRAMS)
 	RUN='$(RUN)' tests/installs.sh target/test/installs $(X86_CC)
 
-# ---- the library beside the independent program, on new cases each time; SEED=N on the command line runs a seed again
+# ---- the libraries beside the independent program, on new cases each time; SEED=N on the command line runs a seed again
 ifndef SEED
 SEED := $(shell od -An -N4 -tu4 /dev/urandom | tr -d ' ')
 endif
 DRIVER = $(RUN) target/c99/driver
-KINDS := tables vectors calls reports moves takes demand3 neighbours runs
+KINDS := tables vectors calls voicemail reports moves takes demand3 demand3-voicemail neighbours neighbours-voicemail runs
 COUNT_tables := 200000
 COUNT_vectors := 100000
 COUNT_calls := 100000
+COUNT_voicemail := 100000
 COUNT_reports := 20000
 COUNT_moves := 50000
 COUNT_takes := 50000
 COUNT_demand3 := 20000
+COUNT_demand3-voicemail := 20000
 COUNT_neighbours := 100000
+COUNT_neighbours-voicemail := 50000
 COUNT_runs := 2000
 
 #: cited              whether what README and manual pages of an installation cite is installed, and its trial works
-cited: $(ARCHIVE) $(PROGRAMS)
+cited: $(ARCHIVES) $(PROGRAMS)
 	RUN='$(RUN)' tests/cited.sh target/test/cited $(X86_CC)
 
 #: recipes            every command and script that a page prints, on the one layout, in the order in which an operator meets them
-recipes: $(ARCHIVE) $(PROGRAMS) $(OVER_ARCHIVE) target/c99/decide
+recipes: $(ARCHIVES) $(PROGRAMS) $(OVER_ARCHIVE) target/c99/decide target/c99/userdata
 	RUN='$(RUN)' tests/recipes.sh target/test/recipes '$(PROGRAM)' $(X86_CC)
 
-#: differential       the library beside the independent program on 640,000 new cases and 2,000 runs of calls; SEED=N runs a seed again
+#: differential       the libraries beside the independent program on 810,000 new cases and 2,000 runs of calls; SEED=N runs a seed again
 differential: target/c99/driver $(BINARY)
 	@for of in $(foreach kind,$(KINDS),$(kind):$(COUNT_$(kind))); do \
 	    echo "differential run: seed $(SEED), $${of#*:} $${of%:*}"; \
@@ -205,7 +231,7 @@ differential: target/c99/driver $(BINARY)
 	done
 
 COUNT_narrow := 10000
-#: narrow             requests that real software sent, 10,000 calls, and 1,000 reports, checks, moves and take-overs on a thread whose stack is 16 KiB; half a minute
+#: narrow             requests that real software sent, 10,000 calls, and 1,000 calls of Sh, reports, checks, moves and take-overs on a thread whose stack is 16 KiB; half a minute
 narrow: target/narrow/decide target/narrow/driver target/c/maketable $(BINARY)
 	RUN='$(RUN)' tests/captured.sh target/test/narrow target/c/maketable $(BINARY) target/narrow/decide
 	tests/narrow.sh $(BINARY) $(SEED) $(COUNT_narrow) $(RUN) target/narrow/driver
@@ -224,14 +250,18 @@ cuts: target/c99/takes target/c99/cuts target/c99/take target/c99/cut-take
 	$(CUT) '' target/c99/cuts target/c99/take target/c99/cut-take $(SEED) 2000 1000
 	$(CUT) target/test/cuts target/c99/cuts target/c99/take target/c99/cut-take $(SEED) 100 20
 
-# 5,000,000 tables, and as many vector files and calls. Each round has the next seed: with SEED=N ROUNDS=M a run that was stopped goes on.
+#: parsed             100,000 answers of the Sh entry, whose documents an XML parser reads as they were meant, half a minute
+parsed: target/c99/driver
+	$(DOCUMENTS) 100000 $(DRIVER)
+
+# 5,000,000 tables, and as many vector files, calls and calls of Sh. Each round has the next seed: with SEED=N ROUNDS=M a run that was stopped goes on.
 ROUNDS := 50
 COUNT_round := 100000
-#: soak               5,000,000 tables, and as many vector files and calls, compared, 10 minutes; SEED=N ROUNDS=M goes on where it was stopped
+#: soak               5,000,000 tables, and as many vector files, calls and calls of Sh, compared, 15 minutes; SEED=N ROUNDS=M goes on where it was stopped
 soak: target/c99/driver $(BINARY)
 	@for ((round = 0; round < $(ROUNDS); round++)); do \
 	    echo "soak: SEED=$$(($(SEED) + round)) ROUNDS=$$(($(ROUNDS) - round))"; \
-	    for kind in tables vectors calls; do \
+	    for kind in tables vectors calls voicemail; do \
 	        $(BINARY) compare --kind $$kind --seed $$(($(SEED) + round)) --count $(COUNT_round) -- $(DRIVER); \
 	    done; \
 	done
@@ -242,7 +272,7 @@ peers: target/c99/daemon target/c/maketable
 
 # After how many cases each deliberate fault of the independent program shows; what the cases are made of.
 COUNT_mutants := 100000
-#: mutants            whether 892 deliberate faults would be noticed, and after how many cases
+#: mutants            whether 1,020 deliberate faults would be noticed, and after how many cases
 mutants: $(BINARY)
 	@echo "mutants: seed $(SEED)"
 	$(BINARY) mutants --seed $(SEED) --count $(COUNT_mutants)
@@ -253,10 +283,12 @@ stats: $(BINARY)
 	$(BINARY) stats --kind tables --seed $(SEED) --count $(COUNT_tables)
 	$(BINARY) stats --kind vectors --seed $(SEED) --count $(COUNT_vectors)
 	$(BINARY) stats --kind calls --seed $(SEED) --count $(COUNT_calls)
+	$(BINARY) stats --kind voicemail --seed $(SEED) --count $(COUNT_voicemail)
 	$(BINARY) stats --kind reports --seed $(SEED) --count $(COUNT_reports)
 	$(BINARY) stats --kind moves --seed $(SEED) --count $(COUNT_moves)
 	$(BINARY) stats --kind takes --seed $(SEED) --count $(COUNT_takes)
 	$(BINARY) stats --kind neighbours --seed $(SEED) --count $(COUNT_neighbours)
+	$(BINARY) stats --kind neighbours-voicemail --seed $(SEED) --count $(COUNT_neighbours-voicemail)
 
 # The definitions beside the independent program: antt computes each case, which takes seconds; 24 make a quick trial.
 COUNT_DEFINITIONS := 300
@@ -270,8 +302,8 @@ definitions-check: $(BINARY)
 cases: $(BINARY)
 	tests/cases.py $(BINARY) crates/cases
 
-$(ARCHIVE): $(PROVED)
-	$(RT) staticlib ndushavire
+$(ARCHIVES): target/staticlib/lib%.a: $(PROVED)
+	$(RT) staticlib $*
 
 $(BINARY): $(REFERENCE)
 	cd reference && cargo build --offline --release --quiet
@@ -281,11 +313,11 @@ target/c/%: examples/%.c examples/load.h $(HEADER)
 	mkdir -p $(@D)
 	$(CC) -std=c99 $(STRICT) -o $@ $<
 
-target/c/header: tests/header.c $(HEADER)
+target/c/header: tests/header.c $(HEADER) $(SH_HEADER)
 	mkdir -p $(@D)
 	$(CC) -std=c99 $(STRICT) -o $@ $<
 
-target/c++/header: tests/header.c $(HEADER)
+target/c++/header: tests/header.c $(HEADER) $(SH_HEADER)
 	mkdir -p $(@D)
 	$(CXX) $(STRICT) -o $@ -x c++ $<
 
@@ -322,21 +354,22 @@ target/c++/store: tests/store.c examples/store.h examples/load.h
 	mkdir -p $(@D)
 	$(CXX) $(STRICT) -o $@ -x c++ $<
 
-target/c99/driver: tests/driver.c $(HEADER) $(ARCHIVE)
+target/c99/driver: tests/driver.c $(HEADER) $(SH_HEADER) $(ARCHIVES)
 	mkdir -p $(@D)
-	$(X86_CC) -std=c99 $(STRICT) -o $@ $< $(ARCHIVE)
+	$(X86_CC) -std=c99 $(STRICT) -o $@ $< $(ARCHIVES)
 
-target/c99/overstep: tests/overstep.c tests/driver.c $(HEADER) $(ARCHIVE)
+target/c99/overstep: tests/overstep.c tests/driver.c $(HEADER) $(SH_HEADER) $(ARCHIVES)
 	mkdir -p $(@D)
-	$(X86_CC) -std=c99 $(STRICT) -Wl,--wrap=ndushavire_check,--wrap=ndushavire_check_vectors -o $@ tests/overstep.c tests/driver.c $(ARCHIVE)
+	$(X86_CC) -std=c99 $(STRICT) -Wl,--wrap=ndushavire_check,--wrap=ndushavire_check_vectors,--wrap=ndushavire_sh_decide -o $@ \
+	    tests/overstep.c tests/driver.c $(ARCHIVES)
 
 target/narrow/driver: tests/driver.c
-target/narrow/decide: examples/decide.c examples/load.h examples/fault.h examples/peers.h
+target/narrow/decide: examples/decide.c examples/load.h examples/fault.h examples/hex.h examples/peers.h examples/stated.h
 # Bound at the start, as pkg-config has it: else a first call pays for the dynamic linker on its own small stack.
-target/narrow/driver target/narrow/decide: tests/narrow.c $(HEADER) $(ARCHIVE)
+target/narrow/driver target/narrow/decide: tests/narrow.c $(HEADER) $(SH_HEADER) $(ARCHIVES)
 	mkdir -p $(@D)
 	$(X86_CC) -std=c99 $(STRICT) -pthread -Wl,-z,now \
-	    $(foreach entry,check check_vectors decide report forward back take,-Wl,--wrap=ndushavire_$(entry)) -o $@ $(filter %.c,$^) $(ARCHIVE)
+	    $(foreach entry,check check_vectors decide report forward back take sh_decide,-Wl,--wrap=ndushavire_$(entry)) -o $@ $(filter %.c,$^) $(ARCHIVES)
 
 target/c99/version: tests/version.c $(HEADER) $(ARCHIVE)
 	mkdir -p $(@D)
@@ -345,6 +378,10 @@ target/c99/version: tests/version.c $(HEADER) $(ARCHIVE)
 target/c99/unsound: tests/unsound.c bench/requests.h $(HEADER) $(ARCHIVE)
 	mkdir -p $(@D)
 	$(X86_CC) -std=c99 $(STRICT) -o $@ $< $(ARCHIVE)
+
+target/c99/voicemail: tests/voicemail.c bench/requests.h $(HEADER) $(SH_HEADER) $(ARCHIVES)
+	mkdir -p $(@D)
+	$(X86_CC) -std=c99 $(STRICT) -o $@ $< $(ARCHIVES)
 
 target/c99/moves: tests/moves.c tests/random-tables.h bench/requests.h $(HEADER) $(ARCHIVE)
 	mkdir -p $(@D)
@@ -364,22 +401,24 @@ target/c99/month: tests/month.c bench/requests.h examples/load.h $(HEADER) $(ARC
 	mkdir -p $(@D)
 	$(X86_CC) -std=c99 $(STRICT) -o $@ $< $(ARCHIVE)
 
+# The two that answer Sh requests are linked with both archives.
 target/c99/daemon: $(addprefix examples/,base.h files.h log.h remember.h taking.h)
-target/c99/%: examples/%.c examples/load.h examples/fault.h examples/peers.h examples/store.h examples/area.h $(HEADER) $(ARCHIVE)
+$(foreach mode,c99 cxx,$(addprefix target/$(mode)/,daemon userdata)): $(SH_HEADER) $(SH_ARCHIVE)
+target/c99/%: examples/%.c examples/load.h examples/fault.h examples/hex.h examples/peers.h examples/stated.h examples/store.h examples/area.h $(HEADER) $(ARCHIVE)
 	mkdir -p $(@D)
-	$(X86_CC) -std=c99 $(STRICT) -o $@ $< $(ARCHIVE)
+	$(X86_CC) -std=c99 $(STRICT) -o $@ $< $(filter %.a,$^)
 
-target/cxx/%: examples/%.c examples/load.h examples/fault.h examples/peers.h examples/store.h examples/area.h $(HEADER) $(ARCHIVE)
+target/cxx/%: examples/%.c examples/load.h examples/fault.h examples/hex.h examples/peers.h examples/stated.h examples/store.h examples/area.h $(HEADER) $(ARCHIVE)
 	mkdir -p $(@D)
-	$(X86_CXX) $(STRICT) -o $@ -x c++ $< -x none $(ARCHIVE)
+	$(X86_CXX) $(STRICT) -o $@ -x c++ $< -x none $(filter %.a,$^)
 
 # ---- the benchmarks, native on every machine
 ifeq ($(MACHINE),x86_64)
 TUNE := -march=native
-TIMED := $(ARCHIVE)
+TIMED := $(ARCHIVES)
 else
 TUNE := -mcpu=native
-TIMED := target/native/libndushavire.a
+TIMED := target/native/libndushavire_sh.a target/native/libndushavire.a
 endif
 CHECKED := 1-short 16-short 300-short 4096-short 4096-ims 4096-long
 SECOND := 4096-short-2 4096-long-2 4096-short-2-1 4096-short-2-2 4096-short-2-4 4096-long-2-4 4096-alike-2-4 4096-alike-2-1
@@ -411,8 +450,8 @@ else
 	@echo 'Bound lazily: not measured, since programs are linked statically here.'
 endif
 
-target/native/libndushavire.a: bench/native-lib $(PROVED)
-	bench/native-lib ndushavire
+target/native/lib%.a: bench/native-lib $(PROVED)
+	bench/native-lib $*
 
 # The least that a check of a file can do, for any x86-64 or Arm and for this machine's own processor.
 target/bench/sum-plain.o: bench/sum.c
@@ -423,7 +462,7 @@ target/bench/sum-native.o: bench/sum.c
 	mkdir -p $(@D)
 	$(CC) -O3 $(TUNE) -DSUM=sum_native -c -o $@ $<
 
-TIMER := bench/aims.h bench/requests.h bench/samples.h bench/timing.h bench/vectors.h examples/load.h $(HEADER) $(TIMED) target/bench/libreference_c.a
+TIMER := bench/aims.h bench/requests.h bench/samples.h bench/timing.h bench/vectors.h examples/load.h $(HEADER) $(SH_HEADER) $(TIMED) target/bench/libreference_c.a
 SUMS := target/bench/sum-plain.o target/bench/sum-native.o
 
 target/bench/check target/bench/vectors: target/bench/%: bench/%.c $(TIMER) $(SUMS)
@@ -436,9 +475,9 @@ target/bench/report target/bench/moves target/bench/takes: target/bench/%: bench
 	$(CC) -std=c99 $(STRICT) -o $@ $< $(TIMED)
 
 # One program for both bindings: which it is says the environment that it is run in.
-target/c99/stack: bench/stack.c bench/requests.h bench/samples.h bench/vectors.h examples/load.h $(HEADER) $(ARCHIVE)
+target/c99/stack: bench/stack.c bench/requests.h bench/samples.h bench/vectors.h examples/load.h $(HEADER) $(SH_HEADER) $(ARCHIVES)
 	mkdir -p $(@D)
-	$(X86_CC) -std=c99 $(STRICT) -Wl,-z,lazy -o $@ $< $(ARCHIVE)
+	$(X86_CC) -std=c99 $(STRICT) -Wl,-z,lazy -o $@ $< $(ARCHIVES)
 
 target/bench/libreference_c.a: bench/reference.rs $(BINARY)
 	mkdir -p $(@D)
@@ -458,9 +497,9 @@ export PREFIX DESTDIR BINDIR LIBDIR INCLUDEDIR MANDIR DOCDIR
 installable:
 	packaging/install.sh try
 
-#: install            archive, header, programs, manual pages, examples under PREFIX (/usr/local), below DESTDIR if that is set
-install: installable $(ARCHIVE) $(PROGRAMS)
-	packaging/install.sh install $(ARCHIVE) $(PROGRAMS)
+#: install            archives, headers, programs, manual pages, examples under PREFIX (/usr/local), below DESTDIR if that is set
+install: installable $(ARCHIVES) $(PROGRAMS)
+	packaging/install.sh install $(ARCHIVES) $(PROGRAMS)
 
 #: uninstall          takes all that away again
 uninstall:

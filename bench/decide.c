@@ -1,14 +1,16 @@
-/* decide TABLE PROFILE NAMES ..: times one decision on each table, beside the checks that are part of it and the
+/* decide TABLE PROFILE NAMES ..: times one decision on each table, of Cx or of Sh, beside the checks that are part of it and the
  * reference's decision in Rust. Over a table with tiny names, of which a request can hold 1,000, removals
  * are timed. Every request leaves the table as the first call made it, and what it marks in the vector file, which is empty
  * but for a MAR, is unmarked again, so that each call does the same work. As in all benchmarks the peer follows RFC 6733, by which one rule more is
- * asked. */
+ * asked, and no feature is supported. */
 #define _POSIX_C_SOURCE 199309L
+#include <ndushavire_sh.h>
+
 #include "aims.h"
 #include "timing.h"
 #include "vectors.h"
 
-/* The aims, where there is one: UAR, which goes over the table once more, LIR and SAR type 1 at the most records, against the
+/* The aims, where there is one: UAR, which goes over the table once more, LIR, UDR and SAR type 1 at the most records, against the
  * check alone, and a MAR against both checks; from 16 records on, against Rust; 1,000 identities at the most records, against 1. */
 static const Aim NONE = {"", 0}, UAR_AIM = {"<= 1.35", 135}, CHECK_AIM = {"<= 1.1", 110}, CHECKS_AIM = {"<= 1.2", 120};
 static const Aim RUST_AIM = {"< 1.0", 99}, REMOVAL_AIM = {"<= 3.0", 300};
@@ -16,6 +18,9 @@ static const Aim RUST_AIM = {"< 1.0", 99}, REMOVAL_AIM = {"<= 3.0", 300};
 uint64_t reference_serve(const uint8_t *request, size_t request_len, uint8_t *table, size_t table_len,
                          const uint8_t *profile, size_t profile_len, uint8_t *vectors, size_t vectors_len, uint8_t *answer,
                          size_t answer_len);
+
+uint64_t reference_sh_serve(const uint8_t *request, size_t request_len, const uint8_t *table, size_t table_len,
+                            const uint8_t *profile, size_t profile_len, uint8_t *answer, size_t answer_len);
 
 typedef struct {
     const Sample *of;
@@ -26,9 +31,12 @@ typedef struct {
 
 static uint64_t decide(const void *call) {
     const Call *c = (const Call *)call;
+    if (ndushavire_sh_meant(c->request->bytes))
+        return ndushavire_sh_decide(c->request->bytes, c->request->length, c->table, c->of->table_len, c->of->profile, c->of->profile_len,
+                                    c->answer, NDUSHAVIRE_ANSWER_ROOM, NDUSHAVIRE_RFC_6733);
     const uint64_t word = ndushavire_decide(c->request->bytes, c->request->length, c->table, c->of->table_len, c->of->profile,
                                             c->of->profile_len, c->vectors.bytes, c->vectors.length, c->answer, NDUSHAVIRE_ANSWER_ROOM,
-                                            NDUSHAVIRE_RFC_6733);
+                                            NDUSHAVIRE_RFC_6733, NDUSHAVIRE_NO_FEATURES);
     unmark(&c->vectors);
     return word;
 }
@@ -41,6 +49,9 @@ static uint64_t check(const void *call) {
 
 static uint64_t rust(const void *call) {
     const Call *c = (const Call *)call;
+    if (ndushavire_sh_meant(c->request->bytes))
+        return reference_sh_serve(c->request->bytes, c->request->length, c->table, c->of->table_len, c->of->profile, c->of->profile_len,
+                                  c->answer, NDUSHAVIRE_ANSWER_ROOM);
     const uint64_t word = reference_serve(c->request->bytes, c->request->length, c->table, c->of->table_len, c->of->profile,
                                           c->of->profile_len, c->vectors.bytes, c->vectors.length, c->answer, NDUSHAVIRE_ANSWER_ROOM);
     unmark(&c->vectors);
@@ -101,7 +112,8 @@ static void measure_removals(const Sample *s, Request *request, const uint8_t *r
            judged(s->records == NDUSHAVIRE_RECORDS_MAX ? REMOVAL_AIM : NONE, many / one));
 }
 
-/* Reading is linear: some 1,350 AVPs take twice the time of half as many. As many Proxy-Infos are copied into the answer besides. */
+/* Reading is linear: some 1,350 AVPs take twice the time of half as many. As many Proxy-Infos are copied into the answer besides; some 290
+ * Supported-Features are asked for bits, and looked at once more for the own list. */
 static void measure_reading(const Sample *s, Request *request, const uint8_t *record) {
     ask_long_location(request, record, NDUSHAVIRE_REQUEST_MAX / 2);
     const double half = measure(s, request, "LIR of 8 KiB", NONE);
@@ -110,6 +122,8 @@ static void measure_reading(const Sample *s, Request *request, const uint8_t *re
     printf("%7lu  whole against half %5.2f\n", (unsigned long)s->records, whole / half);
     ask_by_proxies(request, record);
     measure(s, request, "LIR by proxies", NONE);
+    ask_with_features(request, record);
+    measure(s, request, "LIR, features", NONE);
 }
 
 /* A vector for each record; one is asked for, and then as many as are ever sent. */
@@ -137,6 +151,8 @@ static int measure_all(const Sample *s) {
     measure(s, &request, "UAR", UAR_AIM);
     ask_location(&request, registered);
     measure(s, &request, "LIR", CHECK_AIM);
+    ask_user_data(&request, registered);
+    measure(s, &request, "UDR", CHECK_AIM);
     ask_assignment(&request, s->table, s->records, registered, 1, 1);
     measure(s, &request, "SAR type 1", CHECK_AIM);
     measure_authentication(s, &request, registered);

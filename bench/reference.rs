@@ -1,4 +1,4 @@
-//! The reference's checks and its decision for C to call, so that one program times all.
+//! The reference's checks and its decisions for C to call, so that one program times all.
 
 use reference::slip::Slip;
 use reference::stated::Stated;
@@ -39,4 +39,24 @@ pub unsafe extern "C" fn reference_serve(
     let vectors = from_raw_parts_mut(vectors, vectors_len);
     let answer = from_raw_parts_mut(answer, answer_len);
     reference::serve::serve(request, table, profile, vectors, answer, Stated::NEWER, Slip::NONE).0
+}
+
+/// # Safety
+/// Each pointer is as many bytes as its length says; those of `answer` may be written.
+#[no_mangle]
+pub unsafe extern "C" fn reference_sh_serve(
+    request: *const u8,
+    request_len: usize,
+    table: *const u8,
+    table_len: usize,
+    profile: *const u8,
+    profile_len: usize,
+    answer: *mut u8,
+    answer_len: usize,
+) -> u64 {
+    let request = from_raw_parts(request, request_len);
+    let table = from_raw_parts(table, table_len);
+    let profile = from_raw_parts(profile, profile_len);
+    let answer = from_raw_parts_mut(answer, answer_len);
+    reference::sh::user_data(request, table, profile, answer, Stated::NEWER, Slip::NONE).0
 }

@@ -24,7 +24,7 @@ static uint8_t answer[NDUSHAVIRE_ANSWER_ROOM], numbers[NDUSHAVIRE_REPORT_ROOM], 
 
 static uint64_t report(const Month *m, size_t length) {
     return ndushavire_report(m->file, length, m->of->table, m->of->table_len, m->of->profile, m->of->profile_len, &nothing, 0, answer,
-                             sizeof answer, numbers, sizeof numbers, NDUSHAVIRE_RFC_6733);
+                             sizeof answer, numbers, sizeof numbers, NDUSHAVIRE_RFC_6733, NDUSHAVIRE_NO_FEATURES);
 }
 static uint64_t few(const void *month) { return report((const Month *)month, ((const Month *)month)->few); }
 static uint64_t many(const void *month) { return report((const Month *)month, ((const Month *)month)->many); }
@@ -32,7 +32,7 @@ static uint64_t many(const void *month) { return report((const Month *)month, ((
 static uint64_t decide_kind(const Month *m, int kind) {
     const Request *r = m->kinds + kind;
     return ndushavire_decide(r->bytes, r->length, m->of->table, m->of->table_len, m->of->profile, m->of->profile_len, &nothing, 0, answer,
-                             sizeof answer, NDUSHAVIRE_RFC_6733);
+                             sizeof answer, NDUSHAVIRE_RFC_6733, NDUSHAVIRE_NO_FEATURES);
 }
 static uint64_t decide_one(const void *month) { return decide_kind((const Month *)month, 0); }
 static uint64_t decide_two(const void *month) { return decide_kind((const Month *)month, 0) + decide_kind((const Month *)month, 1); }

@@ -1,4 +1,4 @@
-/* requests.h: requests as call servers send them, about the records of a table. */
+/* requests.h: requests as call servers and a voicemail box send them, about the records of a table. */
 #ifndef REQUESTS_H
 #define REQUESTS_H
 
@@ -7,7 +7,7 @@
 #include <stdlib.h>
 #include <string.h>
 
-enum { CX = 16777216, VENDOR = 10415 };
+enum { CX = 16777216, OF_SH = 16777217, VENDOR = 10415 };
 enum { NOT_REGISTERED = 0, REGISTERED = 1 };
 
 typedef struct {
@@ -71,6 +71,16 @@ static inline void put_word(Request *r, uint32_t code, uint32_t vendor, uint32_t
     put(r, code, vendor, data);
 }
 
+/* Supported-Features (628): bits of a vendor's list. Its flags are 0xC0 with M, and 0x80 without. */
+static inline void put_features(Request *r, uint32_t flags, uint32_t vendor, uint32_t list, uint32_t bits) {
+    put_number(r, 628);
+    put_number(r, flags << 24 | 56);
+    put_number(r, VENDOR);
+    put_word(r, 266, 0, vendor);
+    put_word(r, 629, VENDOR, list);
+    put_word(r, 630, VENDOR, bits);
+}
+
 /* The header, and the AVPs that every request has. */
 static inline void begin(Request *r, uint32_t command) {
     r->length = 0;
@@ -113,6 +123,13 @@ static inline void ask_location(Request *r, const uint8_t *record) {
 static inline void ask_long_location(Request *r, const uint8_t *record, size_t most) {
     ask_location(r, record);
     while (r->length + 12 <= most) put_text(r, 282, "r.is");
+    end(r);
+}
+
+/* The same, filled up with Supported-Features that ask for no bit: each is looked at twice, for what it asks and for whether it calls for the own list. */
+static inline void ask_with_features(Request *r, const uint8_t *record) {
+    ask_location(r, record);
+    while (r->length + 56 <= sizeof r->bytes) put_features(r, 0xC0, VENDOR, 1, 0);
     end(r);
 }
 
@@ -168,6 +185,21 @@ static inline void ask_authentication(Request *r, const uint8_t *record, uint32_
     put(r, 608, VENDOR, scheme);
     put_word(r, 607, VENDOR, number);
     put(r, 602, VENDOR, name);
+    end(r);
+}
+
+/* Is this line registered, and with which call server? It is of Sh, whose application stands in the header and in 260. */
+static inline void ask_user_data(Request *r, const uint8_t *record) {
+    const Name identity = public_of(record);
+    begin(r, 306);
+    spell(r->bytes + 8, OF_SH);
+    spell(r->bytes + r->length - 16, OF_SH); /* behind it stands 277 */
+    put_number(r, 700);
+    put_number(r, 0xC0000000u + 24 + (uint32_t)(identity.length + 3) / 4 * 4);
+    put_number(r, VENDOR);
+    put(r, 601, VENDOR, identity);
+    put_word(r, 703, VENDOR, 11);
+    put_word(r, 703, VENDOR, 12);
     end(r);
 }
 

@@ -1,10 +1,12 @@
-/* stack TABLE PROFILE NAMES ..: how deep the library's calls reach into the stack. Each runs on a stack of its own that
+/* stack TABLE PROFILE NAMES ..: how deep the libraries' calls reach into the stack. Each runs on a stack of its own that
  * was filled with a pattern; the deepest byte that lost it tells, less what a call that does nothing takes there.
  * With LD_BIND_NOW set the aim is for what a call takes by itself. With LD_BIND_NOT set the dynamic linker looks up memset and the like each
  * time (ld.so(8)), as it does at a first call that is bound lazily: what it takes besides depends on the processor, and has no aim.
  * Exit status 1 if a call takes more than the aim, or is refused and so tells nothing. */
 #define _XOPEN_SOURCE 600
 #include <ucontext.h>
+
+#include <ndushavire_sh.h>
 
 #include "vectors.h"
 
@@ -13,7 +15,7 @@ enum { STACK = 1 << 20, PATTERN = 0xA5, AIM = 12288 };
 static const Sample *s;
 static Request request;
 static Vectors vectors; /* a vector for each record */
-static uint8_t month[1 << 16]; /* the requests decided so far, laid end to end */
+static uint8_t month[1 << 17]; /* the requests decided so far, laid end to end */
 static size_t month_len;
 static uint64_t word;
 static ucontext_t here, there;
@@ -24,14 +26,19 @@ static void check_vectors(void) { word = ndushavire_check_vectors(vectors.bytes,
 static void decide(void) {
     static uint8_t answer[NDUSHAVIRE_ANSWER_ROOM];
     word = ndushavire_decide(request.bytes, request.length, s->table, s->table_len, s->profile, s->profile_len, vectors.bytes,
-                             vectors.length, answer, sizeof answer, NDUSHAVIRE_RFC_6733);
+                             vectors.length, answer, sizeof answer, NDUSHAVIRE_RFC_6733, NDUSHAVIRE_NO_FEATURES);
+}
+
+static void sh_decide(void) {
+    static uint8_t answer[NDUSHAVIRE_ANSWER_ROOM];
+    word = ndushavire_sh_decide(request.bytes, request.length, s->table, s->table_len, s->profile, s->profile_len, answer, sizeof answer, NDUSHAVIRE_RFC_6733);
 }
 
 static uint8_t numbers[NDUSHAVIRE_REPORT_ROOM];
 static void report(void) {
     static uint8_t answer[NDUSHAVIRE_ANSWER_ROOM];
     word = ndushavire_report(month, month_len, s->table, s->table_len, s->profile, s->profile_len, vectors.bytes, vectors.length, answer,
-                             sizeof answer, numbers, sizeof numbers, NDUSHAVIRE_RFC_6733);
+                             sizeof answer, numbers, sizeof numbers, NDUSHAVIRE_RFC_6733, NDUSHAVIRE_NO_FEATURES);
 }
 
 static uint8_t fresh[NDUSHAVIRE_TABLE_MAX], area[NDUSHAVIRE_TABLE_MAX]; /* the table in edition 2, and nothing, or what was taken over before */
@@ -46,7 +53,7 @@ static struct {
     const char *name;
     size_t most;
 } entries[] = {{check, "check", 0}, {check_vectors, "vector check", 0}, {forward, "move forward", 0},
-               {back, "move back", 0}, {take, "take-over", 0}, {decide, "decide", 0}, {report, "report", 0}};
+               {back, "move back", 0}, {take, "take-over", 0}, {decide, "decide", 0}, {report, "report", 0}, {sh_decide, "Sh", 0}};
 enum { ENTRIES = sizeof entries / sizeof entries[0] };
 static int lazily, sets; /* how memset and the like are bound; whether the table has sets, for which the check has more to call */
 static uint32_t due;     /* the number that the calls return */
@@ -127,10 +134,24 @@ static int measure_takes(void) {
     return passes;
 }
 
+/* A voicemail box asks: of a line, with an AVP at fault, and with nothing behind the header. The report has none of these. */
+static int measure_sh(const uint8_t *registered) {
+    ask_user_data(&request, registered);
+    int passes = within(sh_decide, "UDR");
+    const int told = ndushavire_value(word) > 200;
+    if (!told) fprintf(stderr, "stack: the UDR is told nothing\n");
+    spell(request.bytes + request.length - 12, 0xC0000000u + 15); /* its last reference has 3 bytes */
+    passes &= within(sh_decide, "UDR at fault") & told;
+    request.length = NDUSHAVIRE_REQUEST_MIN;
+    end(&request);
+    return passes & within(sh_decide, "UDR's header");
+}
+
 static int measure_all(const uint8_t *registered) {
     month_len = 0;
     int passes = within(check, "check");
     passes &= within(check_vectors, "vector check");
+    passes &= measure_sh(registered);
     passes &= measure_moves();
     passes &= measure_takes();
     if (strcmp(s->names, "tiny") == 0) {
@@ -173,7 +194,8 @@ static int measure_removals(const uint8_t *registered) {
     return passes & removed & reports();
 }
 
-/* The longest answers, and every kind of Failed-AVP: the AVP at fault, a header alone, a second identity, an example of what is missing. */
+/* The longest answers, and every kind of Failed-AVP: the AVP at fault, a header alone, a second identity, an example of what is missing; and the most
+ * Supported-Features, all of which go on, or the last of which asks for what is not supported. */
 static int measure_faults(const uint8_t *registered) {
     month_len = 0;
     ask_by_faulty_proxy(&request, registered);
@@ -184,6 +206,10 @@ static int measure_faults(const uint8_t *registered) {
     passes &= decides("most proxies");
     spell(request.bytes + request.length - 8, 0x40000000u + 16); /* its last AVP now ends behind it */
     passes &= decides("length fault");
+    ask_with_features(&request, registered);
+    passes &= decides("most features");
+    spell(request.bytes + request.length - 4, 1);
+    passes &= decides("1 unsupported");
     ask_assignment(&request, s->table, s->records, registered, 1, 2);
     passes &= decides("2 identities");
     begin(&request, 302);

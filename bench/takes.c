@@ -42,7 +42,7 @@ static uint64_t take(const void *area) {
 static uint64_t ask_of(const Area *a, size_t length) {
     static uint8_t answer[NDUSHAVIRE_ANSWER_ROOM], none;
     return ndushavire_decide(a->question->bytes, a->question->length, a->area, length, a->of->profile, a->of->profile_len, &none, 0, answer,
-                             sizeof answer, NDUSHAVIRE_RFC_6733);
+                             sizeof answer, NDUSHAVIRE_RFC_6733, NDUSHAVIRE_NO_FEATURES);
 }
 static uint64_t ask_exact(const void *area) { return ask_of((const Area *)area, ((const Area *)area)->of->table_len); }
 static uint64_t ask_longer(const void *area) { return ask_of((const Area *)area, NDUSHAVIRE_TABLE_MAX); }

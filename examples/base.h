@@ -14,6 +14,7 @@ enum { PROXIABLE = 0x40, REQUEST = 0x80 };
 enum { SERVER_ASSIGNMENT = 301, MULTIMEDIA_AUTH = 303 };
 enum { SUCCESS = 2001, NO_COMMON_APPLICATION = 5010 };
 #define CX 16777216u
+#define SH 16777217u
 #define RELAY 0xFFFFFFFFu /* the application of a relay, which carries all */
 #define VENDOR_3GPP 10415u
 
@@ -53,14 +54,16 @@ static inline unsigned long experimental_result(const uint8_t *answer, size_t le
     return group != NULL ? four_bytes(group + 28) : 0;
 }
 
-/* Whether a row of AVPs names the application Cx, or a relay's: in Auth-Application-Id (258), by itself or in
+static inline int is_ours(unsigned long application) { return application == CX || application == SH || application == RELAY; }
+
+/* Whether a row of AVPs names an application of ours, Cx or Sh, or a relay's: in Auth-Application-Id (258), by itself or in
  * Vendor-Specific-Application-Id (260). */
-static inline int names_cx(const uint8_t *avps, size_t length) {
+static inline int names_ours(const uint8_t *avps, size_t length) {
     size_t span;
     for (size_t at = 0; (span = avp_span(avps + at, length - at)) > 0; at += span) {
         const unsigned long code = four_bytes(avps + at), size = avp_length(avps + at);
-        if (code == 260 && names_cx(avps + at + 8, size - 8)) return 1;
-        if (code == 258 && size == 12 && (four_bytes(avps + at + 8) == CX || four_bytes(avps + at + 8) == RELAY)) return 1;
+        if (code == 260 && names_ours(avps + at + 8, size - 8)) return 1;
+        if (code == 258 && size == 12 && is_ours(four_bytes(avps + at + 8))) return 1;
     }
     return 0;
 }
@@ -111,19 +114,25 @@ static inline void put_answer(uint8_t *answer, const uint8_t *request, const uin
     put_origin(answer, table);
 }
 
+/* An application of the vendor's, as Vendor-Specific-Application-Id (260) has it. */
+static inline void put_application(uint8_t *answer, unsigned long application) {
+    uint8_t members[HEADER + 24] = {0};
+    put_header(members, 0, 0, members); /* a message for its AVPs alone */
+    put_number(members, 266, VENDOR_3GPP);
+    put_number(members, 258, application);
+    put_avp(answer, 260, members + HEADER, 24);
+}
+
 /* What a CEA has besides: Host-IP-Address (257), of ADDRESS as the AVP has it, Vendor-Id, Product-Name, Supported-Vendor-Id and the
- * one application. */
+ * two applications. */
 static inline void put_capabilities(uint8_t *answer, const uint8_t *address, size_t size) {
     static const char product[] = "ndushavire example daemon";
-    uint8_t application[HEADER + 24] = {0};
-    put_header(application, 0, 0, application); /* a message for its AVPs alone */
-    put_number(application, 266, VENDOR_3GPP);
-    put_number(application, 258, CX);
     put_avp(answer, 257, address, size);
     put_number(answer, 266, VENDOR_3GPP);
     put_avp(answer, PRODUCT_NAME, product, sizeof product - 1);
     put_number(answer, 265, VENDOR_3GPP);
-    put_avp(answer, 260, application + HEADER, 24);
+    put_application(answer, CX);
+    put_application(answer, SH);
 }
 
 #endif

@@ -1,4 +1,4 @@
-/* daemon [-a ADDRESS] [-p PORT] [-e EDITION[=HOST]].. LIVE CARDS: the smallest whole daemon over the library, to be copied: what
+/* daemon [-a ADDRESS] [-p PORT] [-e EDITION[=HOST]].. [-f FEATURES] LIVE CARDS: the smallest whole daemon over both libraries, to be copied: what
  * ndushavire(3) tells, running.
  * LIVE is the folder of table and profile, or a link to it; CARDS is that of the vector file, vectors. It listens on 127.0.0.1, port 3868,
  * unless it is told otherwise, and stays in the foreground. Its log goes to standard error, which somebody must read, or it is a file: a
@@ -7,7 +7,8 @@
  * - One thread, one loop over poll. No peer is waited for: one that sends a byte a minute, or reads nothing, has its place and no more. Of one
  *   that sends much at once 16 KiB are served, and then come the others.
  * - CER, DWR and DPR are answered here (base.h). Every other message goes to ndushavire_decide, unless it is a SAR or a MAR that came before
- *   and its answer is remembered (remember.h).
+ *   and its answer is remembered (remember.h), or is of the Sh interface: those go to ndushavire_sh_decide, which only reads the table. A CEA names
+ *   both applications, Cx and Sh, to every peer.
  * - What a call altered is stored and flushed before the answer is sent, the vector file and then the table (files.h, store.h). What cannot be
  *   stored is undone and not answered: the peer asks again. Only a SAR or a MAR that succeeds alters anything: that is proved.
  * - A table that is put in the live one's place is taken over if it is sound; if not, the log says why. One of edition 2 that is put beside it,
@@ -16,6 +17,8 @@
  * - It never stores over files that nobody may write to: those are a last good copy.
  * - Each peer follows RFC 3588, or RFC 6733, as -e says: -e 6733 is for all peers, -e 6733=gw.mainland.example for the one that has this
  *   Origin-Host in its CER, and goes before it. Without -e it is RFC 3588. The log says it of each peer that comes (peers.h).
+ * - It supports the features that -f says, to all peers: the bits of list 1 as one number, -f 3 or -f 0x3. Without -f it supports none. The log says
+ *   which at the start, and what a peer asked for that got X5011 (stated.h).
  *
  * Who may connect, TLS, failover and routing are a relay's in front of it; INTEROPERABILITY.md shows one.
  * Exit status: 0 ended by SIGTERM or SIGINT, or --help; 1 it cannot start or go on; 2 the arguments are others. */
@@ -27,14 +30,14 @@
 #include <signal.h>
 #include <sys/socket.h>
 
-#include <ndushavire.h>
+#include <ndushavire_sh.h>
 
 #include "base.h"
 #include "fault.h"
 #include "files.h"
 #include "log.h"
-#include "peers.h"
 #include "remember.h"
+#include "stated.h"
 #include "taking.h"
 
 #ifndef QUIET
@@ -47,6 +50,7 @@
 #define FAREWELL 3 /* seconds that peers have to answer our DPR */
 #endif
 enum { PEERS = 64, STATEMENTS = 64, NAME_ROOM = 80, OUT_ROOM = 2 * NDUSHAVIRE_ANSWER_ROOM, BASE_ROOM = 512 };
+enum { MARKED_OF_VENDOR = 0xC0, VENDOR_ID = 266, SUPPORTED_FEATURES = 628, FEATURE_LIST_ID = 629, FEATURE_LIST = 630, FEATURE_UNSUPPORTED = 5011 };
 
 typedef struct {
     int socket;             /* -1: nobody */
@@ -63,6 +67,7 @@ static Peer peers[PEERS];
 static uint8_t answer[NDUSHAVIRE_ANSWER_ROOM];
 static char *statements[STATEMENTS]; /* what -e says of peers */
 static size_t stated;
+static uint32_t features = NDUSHAVIRE_NO_FEATURES; /* what -f says */
 
 static void hang_up(Peer *peer, const char *why) {
     say("peer %s: hung up: %s", peer->name, why);
@@ -121,14 +126,14 @@ static void greet(Peer *peer, const uint8_t *request, size_t length) {
     }
     write_name(peer->name, sizeof peer->name, host + 8, avp_length(host) - 8);
     peer->edition = edition_followed(statements, stated, host + 8, avp_length(host) - 8);
-    const int common = names_cx(request + HEADER, length - HEADER);
+    const int common = names_ours(request + HEADER, length - HEADER);
     put_answer(reply, request, table.bytes, common ? SUCCESS : NO_COMMON_APPLICATION);
     put_capabilities(reply, address, own_address(peer, address));
     send_later(peer, reply, message_length(reply));
     peer->open = common;
     peer->ending = !common;
     if (common) say("peer %s: open, RFC %lu", peer->name, (unsigned long)peer->edition);
-    else say("peer %s: it does not speak Cx", peer->name);
+    else say("peer %s: it speaks neither Cx nor Sh", peer->name);
 }
 
 /* CER, DWR, DPR, and the answers to ours. */
@@ -145,16 +150,21 @@ static void serve_base(Peer *peer, const uint8_t *message, size_t length) {
     send_later(peer, reply, message_length(reply));
 }
 
-/* ---- the library's requests */
+/* ---- the libraries' requests */
+
+/* Whether a request is of the Sh interface. */
+static int is_sh(const uint8_t *request, size_t length) { return length >= HEADER && ndushavire_sh_meant(request); }
 
 /* Whether a request may alter a file. */
 static int may_alter(const uint8_t *request, size_t length) {
-    return length >= HEADER && (command_of(request) == SERVER_ASSIGNMENT || command_of(request) == MULTIMEDIA_AUTH);
+    return length >= HEADER && !is_sh(request, length) && (command_of(request) == SERVER_ASSIGNMENT || command_of(request) == MULTIMEDIA_AUTH);
 }
 
 static uint64_t decide_once(const Peer *peer, const uint8_t *request, size_t length) {
+    if (is_sh(request, length))
+        return ndushavire_sh_decide(request, length, table.bytes, table.length, profile.bytes, profile.length, answer, sizeof answer, peer->edition);
     return ndushavire_decide(request, length, table.bytes, table.length, profile.bytes, profile.length, vectors.bytes, vectors.length, answer,
-                             sizeof answer, peer->edition);
+                             sizeof answer, peer->edition, features);
 }
 
 static uint64_t decide(const Peer *peer, const uint8_t *request, size_t length) {
@@ -185,16 +195,44 @@ static void log_challenge(const Peer *peer, const uint8_t *request, size_t reque
     const unsigned long base = base_result(answer, length);
     const uint8_t *user = find_avp(request + HEADER, request_len - HEADER, 1);
     char name[NAME_ROOM] = "";
-    if (command_of(answer) != MULTIMEDIA_AUTH || base == SUCCESS) return;
+    if (command_of(answer) != MULTIMEDIA_AUTH || is_sh(request, request_len) || base == SUCCESS) return;
     if (user != NULL) write_name(name, sizeof name, user + 8, avp_length(user) - 8);
     say("peer %s: no challenge for %s: %c%lu", peer->name, name, base != 0 ? 'B' : 'X', base != 0 ? base : experimental_result(answer, length));
+}
+
+/* The number that a group's member of 4 bytes has, by its code; 0 if there is no such member. */
+static unsigned long number_in(const uint8_t *group, unsigned long code) {
+    const size_t length = avp_length(group);
+    unsigned long number = 0;
+    size_t span;
+    for (size_t at = 12; (span = avp_span(group + at, length - at)) > 0; at += span)
+        if (four_bytes(group + at) == code) number = four_bytes(group + at + avp_length(group + at) - 4);
+    return number;
+}
+
+/* Whether an AVP is a Supported-Features (628) with M that asks for more than is supported. */
+static int asks_too_much(const uint8_t *avp) {
+    return four_bytes(avp) == SUPPORTED_FEATURES && (avp[4] & MARKED_OF_VENDOR) == MARKED_OF_VENDOR && four_bytes(avp + 8) == VENDOR_3GPP &&
+           (number_in(avp, VENDOR_ID) != VENDOR_3GPP || number_in(avp, FEATURE_LIST_ID) != 1 || (number_in(avp, FEATURE_LIST) & ~features) != 0);
+}
+
+/* A call server that asks for too much gets X5011 whatever it wants: here one sees what that was. */
+static void log_unsupported(const Peer *peer, const uint8_t *request, size_t request_len, size_t length) {
+    const uint8_t *avp = request + HEADER;
+    size_t left = request_len - HEADER, span;
+    if (experimental_result(answer, length) != FEATURE_UNSUPPORTED) return;
+    for (; (span = avp_span(avp, left)) > 0 && !asks_too_much(avp); left -= span) avp += span;
+    if (span > 0)
+        say("peer %s: X5011: it asks for features 0x%lx of list %lu of vendor %lu, and 0x%lx of list 1 are supported", peer->name,
+            number_in(avp, FEATURE_LIST), number_in(avp, FEATURE_LIST_ID), number_in(avp, VENDOR_ID), (unsigned long)features);
 }
 
 /* A result 2xxx, B or X. */
 static int succeeded(size_t length) { return (base_result(answer, length) + experimental_result(answer, length)) / 1000 == 2; }
 
-/* What may alter something if it comes a second time is remembered. A request with an AVP at fault is not: it altered nothing, and whoever brings
- * it again is answered by his own edition. */
+/* What may alter something if it comes a second time is remembered, and whichever peer brings it again is sent the answer as it was, by whatever base
+ * standard: it was done once. A request with an AVP at fault is not: it altered nothing, and the peer that brings it again is answered by its own.
+ * The features are those of the start; where they may change, forget all answers then. */
 static void remember_for_twice(int has_altered, const uint8_t *request, size_t length, size_t answer_len) {
     static time_t said;
     if (remember(now, has_altered, request, length, answer, answer_len) || !has_altered || (said != 0 && now - said < 60)) return;
@@ -212,6 +250,7 @@ static void serve_new(Peer *peer, const uint8_t *request, size_t length) {
     }
     log_fault(peer, request, length, answer_len, ndushavire_place(word));
     log_challenge(peer, request, length, answer_len);
+    log_unsupported(peer, request, length, answer_len);
     if (may_alter(request, length) && succeeded(answer_len)) outcome = keep_altered(command_of(request) == MULTIMEDIA_AUTH);
     if (outcome == UNDONE) return;
     if (may_alter(request, length) && ndushavire_place(word) == 0) remember_for_twice(outcome == KEPT, request, length, answer_len);
@@ -330,7 +369,7 @@ static int listen_at(const char *address, unsigned long port) {
     if (listening < 0 || setsockopt(listening, SOL_SOCKET, SO_REUSEADDR, &yes, sizeof yes) != 0 || fcntl(listening, F_SETFL, O_NONBLOCK) != 0 ||
         bind(listening, &at.any, size) != 0 || listen(listening, PEERS) != 0 || getsockname(listening, &at.any, &size) != 0)
         stop(address, strerror(errno));
-    say("listening on %s port %u, %lu records", address, ntohs(at.four.sin_port), records_of(&table));
+    say("listening on %s port %u, %lu records, features 0x%lx", address, ntohs(at.four.sin_port), records_of(&table), (unsigned long)features);
     return listening;
 }
 
@@ -446,16 +485,26 @@ static int state(char *statement) {
     return right;
 }
 
+/* Takes what -f says; 0 if that is no number of 32 bits. */
+static int support(const char *digits) {
+    const int right = features_of(digits, &features);
+    if (!right) fprintf(stderr, "daemon: -f: the bits of list 1 that are supported, a number of 32 bits, decimal or with 0x\n");
+    return right;
+}
+
 int main(int argc, char **argv) {
-    static const char usage[] = "usage: daemon [-a ADDRESS] [-p PORT] [-e EDITION[=HOST]].. LIVE CARDS\n";
+    static const char usage[] = "usage: daemon [-a ADDRESS] [-p PORT] [-e EDITION[=HOST]].. [-f FEATURES] LIVE CARDS\n"
+                                "EDITION: the base standard that the peers follow, or the one with the Origin-Host HOST: 3588, unless it is given, or 6733.\n"
+                                "FEATURES: the bits of list 1 that are supported, to all peers, decimal or with 0x: 0, unless it is given.\n";
     const char *address = "127.0.0.1";
     unsigned long port = 3868;
     int option, wrong = 0;
     if (argc == 2 && strcmp(argv[1], "--help") == 0) return fputs(usage, stdout) < 0 || fclose(stdout) != 0;
-    while ((option = getopt(argc, argv, "a:p:e:")) != -1) {
+    while ((option = getopt(argc, argv, "a:p:e:f:")) != -1) {
         if (option == 'a') address = optarg;
         if (option == 'p') port = port_of(optarg);
         if (option == 'e') wrong |= !state(optarg);
+        if (option == 'f') wrong |= !support(optarg);
         wrong |= option == '?';
     }
     if (port > 65535) fprintf(stderr, "daemon: -p: a port is 0 to 65535\n");
@@ -464,6 +513,7 @@ int main(int argc, char **argv) {
         return 2;
     }
     setvbuf(stderr, NULL, _IOLBF, 0);
+    if (ndushavire_version() != NDUSHAVIRE_VERSION_NUMBER) stop("the library", "it is of another version than the header that the daemon was compiled with");
     look_at_clock();
     on(SIGTERM, end_later);
     on(SIGINT, end_later);

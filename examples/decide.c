@@ -1,52 +1,18 @@
-/* decide [-e EDITION] TABLE PROFILE VECTORS REQUEST: answers one request, and shows what the call returned and changed, and where it hurts if
- * an AVP of the request is at fault. EDITION is that of the base standard which the peer follows, 3588 unless it is given, or 6733; every
- * other is refused by 12.
+/* decide [-e EDITION] [-f FEATURES] TABLE PROFILE VECTORS REQUEST: answers one request, and shows what the call returned and changed, and where it hurts
+ * if an AVP of the request is at fault. EDITION is that of the base standard which the peer follows, 3588 unless it is given, or 6733; every
+ * other is refused by 12. FEATURES are the bits of list 1 that the server supports, as a number, decimal or with 0x: 0 unless it is given.
  * VECTORS may be /dev/null: there are no vectors then. REQUEST is text: hexadecimal digits, blanks between bytes as you like,
  * and comments from # to the line's end.
  * The files stay as they are, so that a vector is sent again by the next run: this is no server. A daemon stores the vector file
  * and then the table, each whole, before it sends the answer, as store.h does: in a new file, flushed, renamed over the old
  * one, and the folder flushed. Blocks written in place are not enough, since a removal that is half on disk is a sound table.
  * Exit status: 0 answered, 1 refused, 2 a file cannot be read, standard output cannot be written, or the arguments are others. */
-#include <ctype.h>
-
 #include <ndushavire.h>
 
 #include "fault.h"
+#include "hex.h"
 #include "load.h"
-#include "peers.h"
-
-/* Turns hexadecimal text into bytes, in place, and gives their number. */
-static size_t from_hex(uint8_t *text, size_t length) {
-    static const char digits[] = "0123456789abcdef";
-    size_t digit = 0;
-    int comment = 0;
-    for (size_t i = 0; i < length; i++) {
-        const int c = tolower(text[i]);
-        comment = c == '#' || (comment && c != '\n');
-        if (comment || isspace(c)) continue;
-        const char *at = c != 0 ? strchr(digits, c) : NULL;
-        if (at == NULL) {
-            fprintf(stderr, "decide: a request is hexadecimal digits\n");
-            exit(2);
-        }
-        const uint8_t value = (uint8_t)(at - digits);
-        text[digit / 2] = (uint8_t)(digit % 2 == 0 ? value << 4 : text[digit / 2] | value);
-        digit++;
-    }
-    if (digit % 2 != 0) {
-        fprintf(stderr, "decide: half a byte at the request's end\n");
-        exit(2);
-    }
-    return digit / 2;
-}
-
-/* Four bytes to a word and eight words to a line. */
-static void print_hex(const uint8_t *bytes, size_t length) {
-    for (size_t i = 0; i < length; i++) {
-        const char *after = i + 1 == length || i % 32 == 31 ? "\n" : i % 4 == 3 ? " " : "";
-        printf("%02X%s", bytes[i], after);
-    }
-}
+#include "stated.h"
 
 /* A file as it is lent, and as it was. */
 typedef struct {
@@ -78,22 +44,22 @@ static void free_both(File file) {
 }
 
 int main(int argc, char **argv) {
-    const int told = argc > 2 && strcmp(argv[1], "-e") == 0;
-    const uint32_t peer = told ? edition_of(argv[2], strlen(argv[2])) : NDUSHAVIRE_RFC_3588;
-    if (argc != (told ? 7 : 5)) {
-        fprintf(stderr, "usage: decide [-e EDITION] TABLE PROFILE VECTORS REQUEST\n");
+    Stated stated;
+    const int first = take_stated(argc, argv, &stated);
+    if (first == 0 || argc - first != 4) {
+        fprintf(stderr, "usage: decide [-e EDITION] [-f FEATURES] TABLE PROFILE VECTORS REQUEST\n");
         return 2;
     }
-    if (told) argv += 2;
+    argv += first - 1;
     size_t profile_len, request_len;
     const File table = load_twice(argv[1]), vectors = load_twice(argv[3]);
     uint8_t *profile = load(argv[2], &profile_len);
     uint8_t *request = load(argv[4], &request_len);
     static uint8_t answer[NDUSHAVIRE_ANSWER_ROOM];
-    request_len = from_hex(request, request_len);
+    request_len = from_hex("decide", request, request_len);
 
     uint64_t word = ndushavire_decide(request, request_len, table.lent, table.length, profile, profile_len, vectors.lent, vectors.length,
-                                      answer, sizeof answer, peer);
+                                      answer, sizeof answer, stated.peer, stated.features);
     const unsigned long value = ndushavire_value(word);
     if (ndushavire_answered(word)) { /* so both files are whole blocks */
         printf("answered, %lu bytes\n", value);

@@ -3,7 +3,7 @@
  * By the standard Origin-Host and End-to-End Identifier tell a request from every other for four minutes. A client that is wrong there
  * would be sent another request's answer, so here the whole request is compared, but for what relays alter: the T flag, the
  * Hop-by-Hop Identifier, Route-Record (282) and Proxy-Info (284).
- * Only SARs and MARs are remembered: a UAR or a LIR alters nothing, whenever it comes, and is decided again. Answers whose calls altered a
+ * Only SARs and MARs are remembered: a UAR, a LIR or a UDR alters nothing, whenever it comes, and is decided again. Answers whose calls altered a
  * file and those whose calls altered none stand in two rows, so that these, which cost no disk and may be many, never push out those.
  * Answers to MARs have keys in them: they are kept in memory alone, which is gone with the process. */
 #ifndef REMEMBER_H

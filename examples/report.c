@@ -1,8 +1,9 @@
-/* report [-e EDITION] TABLE PROFILE VECTORS REQUESTS: the month's numbers. REQUESTS has requests laid end to end, as they came over the
+/* report [-e EDITION] [-f FEATURES] TABLE PROFILE VECTORS REQUESTS: the month's numbers. REQUESTS has requests laid end to end, as they came over the
  * wire. They are decided again, and shown is how many of each command got each result, how many were refused and why, and where reading
  * stopped.
  * It is installed as ndushavire-report.
- * EDITION is that of the base standard which the peers followed, all of them: 3588 unless it is given, or 6733.
+ * EDITION is the base standard that the peers followed, all of them: 3588 unless it is given, or 6733. FEATURES are the bits of list 1 that the daemon
+ * supported all the time, as a number, decimal or with 0x: 0 unless it is given.
  * TABLE, PROFILE and VECTORS are copies from the month's start, from before the first request: over others the numbers are others.
  * VECTORS may be /dev/null: there are no vectors then. No file is written to. REQUESTS is mapped, whatever its size, and must not be cut
  * short meanwhile.
@@ -17,7 +18,7 @@
 #include <ndushavire.h>
 
 #include "load.h"
-#include "peers.h"
+#include "stated.h"
 
 static int is(const char *word, const char *other) { return strcmp(word, other) == 0; }
 
@@ -156,21 +157,22 @@ static void print_report(const uint8_t *report, Requests requests) {
 }
 
 int main(int argc, char **argv) {
-    static const char usage[] = "usage: ndushavire-report [-e EDITION] TABLE PROFILE VECTORS REQUESTS\n"
+    static const char usage[] = "usage: ndushavire-report [-e EDITION] [-f FEATURES] TABLE PROFILE VECTORS REQUESTS\n"
                                 "Counts what the requests in REQUESTS, end to end, get over copies from before the first of them.\n"
-                                "EDITION: of the base standard, which their peers followed: 3588, unless it is given, or 6733.\n"
+                                "EDITION: the base standard that the peers followed, all of them: 3588, unless it is given, or 6733.\n"
+                                "FEATURES: the bits of list 1 that were supported all the time, decimal or with 0x: 0, unless it is given.\n"
                                 "Exit status: 0 read to the end, 1 stopped before, 2 unreadable or wrong use.\n";
     if (argc == 2 && (is(argv[1], "--help") || is(argv[1], "--version"))) {
         printf("%s", is(argv[1], "--help") ? usage : "ndushavire-report " NDUSHAVIRE_VERSION "\n");
         return printed() ? 0 : 2;
     }
-    const int told = argc > 2 && is(argv[1], "-e");
-    const uint32_t peer = told ? edition_of(argv[2], strlen(argv[2])) : NDUSHAVIRE_RFC_3588;
-    if (argc != (told ? 7 : 5) || peer == 0) {
+    Stated stated;
+    const int first = take_stated(argc, argv, &stated);
+    if (first == 0 || argc - first != 4 || stated.peer == 0) {
         fprintf(stderr, "%s", usage);
         return 2;
     }
-    if (told) argv += 2;
+    argv += first - 1;
     size_t table_len, profile_len, vectors_len;
     uint8_t *table = load(argv[1], &table_len);
     uint8_t *profile = load(argv[2], &profile_len);
@@ -179,7 +181,7 @@ int main(int argc, char **argv) {
     static uint8_t answer[NDUSHAVIRE_ANSWER_ROOM], report[NDUSHAVIRE_REPORT_ROOM];
 
     const uint64_t word = ndushavire_report(requests.bytes, requests.length, table, table_len, profile, profile_len, vectors, vectors_len,
-                                            answer, sizeof answer, report, sizeof report, peer);
+                                            answer, sizeof answer, report, sizeof report, stated.peer, stated.features);
     const uint32_t number = ndushavire_number(word);
     if (number == NDUSHAVIRE_DONE || number == NDUSHAVIRE_REQUESTS_BROKEN)
         print_report(report, requests);

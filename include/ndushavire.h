@@ -1,9 +1,14 @@
 /* ndushavire.h: decides Diameter Cx requests over a subscriber table and a vector file.
  *
+ * Words. UAR, SAR, LIR and MAR are the requests that are decided here: User-Authorization (300), Server-Assignment (301), Location-Info (302) and
+ * Multimedia-Auth (303). An AVP is a field of a message, and is named by its code, as 260 and 628 are; its flag M (0x40) says that whoever gets it must
+ * understand it. B2001 is the result 2001 as a base Result-Code, and X2001 the same number as an Experimental-Result of vendor 10415: they mean different
+ * things.
+ *
  * Who owns what. The caller owns every byte. All slices (request, table, profile, vectors, answer, requests, report, area, fresh) are lent
  * for the length of the call and none is kept: the library has no state of its own, opens no file, takes no memory and
  * starts nothing. The slices of one call must not overlap. Every pointer is non-null, also where its length is 0.
- * Only ndushavire_decide and ndushavire_report write, to the answer, the table and the vectors, and the second to its report;
+ * Only these write: ndushavire_decide and ndushavire_report, to the answer, the table and the vectors, and the second also to its report;
  * ndushavire_forward and ndushavire_back, to their table; and ndushavire_take, to its area. What must outlive the process is for the caller
  * to store.
  *
@@ -21,7 +26,7 @@
  *
  * Threads. A call is reentrant; it sets no errno and raises no signal. Calls on different tables and vectors may run at
  * once and share one profile. While a call runs that writes, no one else may read or write its table or area, its vectors, its answer
- * or its report. Checks of one table, or of one vector file, may run beside each other.
+ * or its report. Checks of one table, or of one vector file, may run beside each other, and so may calls of ndushavire_sh_decide.
  *
  * The profile file is what call servers are sent of each line: bytes without a structure of their own, into which the
  * table's records point. Table and profile file are a pair, made, checked and kept together.
@@ -31,18 +36,18 @@
  * and does not matter. A shorter one has block 0 bad. Everything else that takes a table takes it alone, of its exact length: both
  * moves, and the new table of a take-over.
  *
- * Editions. A table is of edition 1, or of edition 2, which has an issue number in every block and in each record the number
+ * Editions of a table. A table is of edition 1, or of edition 2, which has an issue number in every block and in each record the number
  * of an implicit set, 0 for none. One that mixes editions or issue numbers is unsound. Every function reads both editions, but for the new
- * table of a take-over, which is of edition 2. No answer depends on edition or issue. ndushavire_forward and ndushavire_back move a table from
- * one to the other.
+ * table of a take-over, which is of edition 2. No answer depends on a table's edition or issue. ndushavire_forward and ndushavire_back move a
+ * table from one to the other.
  *
  * Sets. The records of one private identity with the same set number, other than 0, are an implicit set: what a request does to one
  * of them it does to all. A table is sound only if the records of each set agree in state, pending and server name; the later block
  * is the bad one. A version before 0.7.0 reads set numbers and heeds none of them: it must not serve a table that has sets.
  *
  * The vector file has the authentication vectors of the subscribers' cards, a block for each: of a private identity, and
- * used or not. A call that sends vectors marks their blocks as used, and no block is sent twice. It is stored before the
- * answer goes out, and an older one is never lent again: it would send vectors a second time. A file of no bytes (length 0)
+ * used or not. A call that sends vectors marks their blocks as used, and no block is sent twice. The caller stores the file before
+ * the answer goes out, and never lends an older one again: that would send vectors a second time. A file of no bytes (length 0)
  * has no vectors; a daemon for lines without cards lends that.
  *
  * The month's numbers. ndushavire_report decides a whole file of requests again and counts. It alters its table and marks its
@@ -50,7 +55,7 @@
  *
  * Stack. A call takes under 12 KiB by itself, most of it to remember the sets that the check has met. It calls memset and memcpy, and a
  * first call that is bound lazily takes what the dynamic linker takes besides: some 3.2 KB on x86-64 with AVX-512, where decisions then
- * took up to 13,256 bytes and reports up to 14,536. For a small stack link with -Wl,-z,now, as pkg-config does: all is bound at the start. The
+ * took up to 13,352 bytes and reports up to 14,504. For a small stack link with -Wl,-z,now, as pkg-config does: all is bound at the start. The
  * archive has no unwind tables: a debugger's backtrace ends at the call.
  *
  * The peer. RFC 3588 and RFC 6733 are editions of the base standard that differ here in one point: by the newer one a
@@ -59,8 +64,22 @@
  * that the other one takes. A request in which no 260 has a second Vendor-Id gets the same answer under both, to the byte, and alters the same:
  * this is proved.
  *
+ * Features. A feature is an extension of Cx, a bit of a numbered list. New call servers ask for features, in any command, by any number of
+ * Supported-Features (628): each has a vendor, the number of a list, and bits of it. The daemon states at each call which bits of list 1 of vendor 10415
+ * the server supports; bit 0 is worth 1, and any 32 bits may be stated.
+ * - A 628 with M that asks for a bit which is not stated, or for another list or vendor, even with no bit, gets X5011, whatever else would be decided:
+ *   nothing is altered, and no vector is used. A fault of an AVP, or one that is missing, goes before it. What a 628 without M asks for is not judged.
+ * - Whoever sends a 628 that is right in itself, with M or without, is told in the answer which features are supported, none too, by a 628 of the
+ *   server's own. So is one whose request has another AVP at fault, or one missing. It is not in an answer to a fault of the header; and no 628 counts that
+ *   stands behind an AVP whose length is too short for its header or goes past the end.
+ * - A 628 whose content is wrong gets B5004, with M or without.
+ * Apart from X5011 and the server's own 628, nothing that the library decides, stores or sends depends on the features: that is proved. State a bit only if
+ * what the daemon's tables and profiles have is what that feature wants, and NDUSHAVIRE_NO_FEATURES where nobody has said anything: call servers then
+ * learn that there are none.
+ *
  * What comes here. User-Authorization, Server-Assignment, Location-Info and Multimedia-Auth requests. The base protocol's
- * own (Capabilities-Exchange, Device-Watchdog, Disconnect-Peer) are the daemon's: a call would answer each with B3001.
+ * own (Capabilities-Exchange, Device-Watchdog, Disconnect-Peer) are the daemon's: a call would answer each with B3001. So it would a User-Data-Request
+ * of the Sh interface, which is for the second library, ndushavire_sh.h.
  *
  * Versions. Before 1.0.0 a new minor version may add parameters, functions and numbers: compile the daemon anew with
  * the header that came with the archive, since the linker cannot tell one from another; a daemon that compares ndushavire_version()
@@ -76,8 +95,8 @@
 extern "C" {
 #endif
 
-#define NDUSHAVIRE_VERSION "0.12.0"
-#define NDUSHAVIRE_VERSION_NUMBER 1200 /* the same to compare: major x 10,000 + minor x 100 + patch */
+#define NDUSHAVIRE_VERSION "0.14.0"
+#define NDUSHAVIRE_VERSION_NUMBER 1400 /* the same to compare: major x 10,000 + minor x 100 + patch */
 
 #define NDUSHAVIRE_ANSWER_ROOM 36864       /* the least answer buffer, in bytes: no answer is longer */
 #define NDUSHAVIRE_REQUEST_MIN 20          /* the shortest request, a Diameter header alone */
@@ -95,6 +114,9 @@ extern "C" {
 #define NDUSHAVIRE_RFC_3588 3588
 #define NDUSHAVIRE_RFC_6733 6733
 
+/* The features of a server that supports none. Every other number of 32 bits states some, and no number is refused. */
+#define NDUSHAVIRE_NO_FEATURES 0
+
 /* Each function but ndushavire_version returns a word. Keep it in a uint64_t: an int loses the number, and a refusal then looks like a short
  * answer. Its number is 0, or why the call was refused; a refused call has written nothing, but for number 7, which comes
  * at a report's end. Later versions add numbers: every one but 0, known or not, is a refusal. */
@@ -110,16 +132,18 @@ extern "C" {
 #define NDUSHAVIRE_NEW_UNSOUND 9        /* of a take-over: the new table is unsound, not of its exact length, or of edition 1 */
 #define NDUSHAVIRE_ISSUE_NOT_GREATER 10 /* of a take-over: a header or record in the area has the new table's issue, or a greater one */
 #define NDUSHAVIRE_AREA_SHORT 11        /* of a take-over: the area is shorter than the new table */
-#define NDUSHAVIRE_PEER_UNKNOWN 12      /* the peer's edition is neither NDUSHAVIRE_RFC_3588 nor NDUSHAVIRE_RFC_6733; tried before 1 */
+#define NDUSHAVIRE_PEER_UNKNOWN 12      /* the peer's base standard is neither NDUSHAVIRE_RFC_3588 nor NDUSHAVIRE_RFC_6733; tried before 1 */
 #define NDUSHAVIRE_OUTPUT_SHORT 15      /* the report area is under NDUSHAVIRE_REPORT_ROOM */
 
 /* Answers one request, rewrites the records that it changes, those of their sets with them, and marks the vectors that it sends. The
  * word's value is the answer's length; the buffer's bytes past it stay as they were. Its place says which AVP of the request is at
  * fault, if one is: see ndushavire_place. The vectors must be sound whatever is asked. What a call altered is stored whole, all blocks
- * or none: half of a set on disk is an unsound table. PEER is the edition that the peer follows, and is asked before all else. */
+ * or none: half of an implicit set on disk is an unsound table. PEER is the edition of the base standard that the peer follows, NDUSHAVIRE_RFC_3588 or
+ * NDUSHAVIRE_RFC_6733, and is asked before all else. FEATURES are the bits of list 1 that the server supports; no number is
+ * refused. */
 uint64_t ndushavire_decide(const uint8_t *request, size_t request_len, uint8_t *table, size_t table_len,
                            const uint8_t *profile, size_t profile_len, uint8_t *vectors, size_t vectors_len,
-                           uint8_t *answer, size_t answer_len, uint32_t peer);
+                           uint8_t *answer, size_t answer_len, uint32_t peer, uint32_t features);
 
 /* Checks a table against its profile file. The word's number is 0 and its value the record count, or 5 and the first
  * bad block. Of a sound table in a longer area the first 512 x (value + 1) bytes were looked at: they are the table. */
@@ -137,11 +161,13 @@ uint64_t ndushavire_check_vectors(const uint8_t *vectors, size_t vectors_len);
  * The word's number is 0 if the file was used up. It is 7 if 1 to 3 bytes are left, or the next header's length is under
  * NDUSHAVIRE_REQUEST_MIN or past the file's end: the report then has the numbers of all requests before, which have been
  * decided, and says at which byte it stopped. It is 15 if the report area is too short: nothing was decided or written. The
- * value is 0, and no request's refusal ends the report: it is counted. PEER is for all requests of the file: the numbers are those of the month
- * if all its peers followed that edition, or if none sent a second Vendor-Id. By an unknown one each request read is counted under 12. */
+ * value is 0, and no request's refusal ends the report: it is counted. PEER and FEATURES are for all requests of the file: the numbers are those of
+ * the month if all its peers followed that base standard, or none sent a second Vendor-Id, and if the daemon stated these features all the time, or
+ * none sent a 628. By an unknown base standard each request read is counted under 12. */
 uint64_t ndushavire_report(const uint8_t *requests, size_t requests_len, uint8_t *table, size_t table_len,
                            const uint8_t *profile, size_t profile_len, uint8_t *vectors, size_t vectors_len,
-                           uint8_t *answer, size_t answer_len, uint8_t *report, size_t report_len, uint32_t peer);
+                           uint8_t *answer, size_t answer_len, uint8_t *report, size_t report_len, uint32_t peer,
+                           uint32_t features);
 
 /* Moves a sound table of edition 1 to edition 2, in place: every block gets the edition, the issue number, which is any, and its new
  * check word; every set number is 0. Nothing else of it changes, and every request gets the answer that it got.

@@ -1,5 +1,5 @@
 #!/usr/bin/env bash
-# install.sh try | install ARCHIVE PROGRAM.. | uninstall: puts the library, its pages and its examples under PREFIX, and below DESTDIR
+# install.sh try | install ARCHIVE.. PROGRAM.. | uninstall: puts the libraries, their pages and the examples under PREFIX, and below DESTDIR
 # if that is set, or takes them away again; `try` only says whether it could. PREFIX is absolute, and empty means /. So are BINDIR,
 # LIBDIR, INCLUDEDIR, MANDIR and DOCDIR, which lie under PREFIX unless they are set.
 # Each file, and each folder made for one, is first noted in DOCDIR/installed. Uninstalling goes by that note and nothing else.
@@ -40,22 +40,27 @@ sources=() places=() modes=()
 goes() { # SOURCE PLACE MODE
     sources+=("$1") places+=("$2") modes+=("$3")
 }
-list_files() { # ARCHIVE PROGRAM..
+list_files() { # ARCHIVE.. PROGRAM..
     local file name
-    goes "$1" "$libdir/libndushavire.a" 644
-    goes include/ndushavire.h "$includedir/ndushavire.h" 644
+    for file in include/*.h; do goes "$file" "$includedir/${file#include/}" 644; done
     for file in man/*; do goes "$file" "$mandir/man${file##*.}/${file#man/}" 644; done
     for file in packaging/README.md docs/*.md; do goes "$file" "$docdir/${file##*/}" 644; done
     for file in examples/* "${requests[@]}"; do goes "$file" "$docdir/examples/${file##*/}" 644; done
-    for file in "${@:2}"; do
+    for file in "$@"; do
         name=${file##*/}
-        case $name in check | maketable | move | report | showtable | take) name=ndushavire-$name ;; esac
+        case $name in
+        *.a) goes "$file" "$libdir/$name" 644 && continue ;;
+        check | maketable | move | report | showtable | take) name=ndushavire-$name ;;
+        esac
         goes "$file" "$bindir/$name" 755
     done
 }
 
-# What the header declares: `man` finds ndushavire(3) by each of these names.
-functions() { sed -n 's/^\(static inline \)\{0,1\}[a-z0-9_]* \(ndushavire_[a-z_]*\)(.*/\2/p' include/ndushavire.h; }
+# The libraries: each has a header, a manual page and a pkg-config file of its name. What a header declares: `man` finds its page by each of these names.
+libraries=(ndushavire ndushavire_sh)
+functions() { # LIBRARY
+    sed -n 's/^\(static inline \)\{0,1\}[a-z0-9_]* \(ndushavire_[a-z_]*\)(.*/\2/p' "include/$1.h"
+}
 
 # The scripts that manual pages print are installed to be copied, too: a page and the name of its script.
 scripts=(tablecheck.1:switch.sh ndushavire-check.1:vectors.sh ndushavire-move.1:move.sh ndushavire-report.1:month.sh)
@@ -64,11 +69,11 @@ script_of() { # PAGE
 }
 
 # What pkg-config is told: folders under PREFIX by that name.
-pkg_config() {
+pkg_config() { # LIBRARY
     local text version
     under() { if [ "${1#"$prefix"/}" != "$1" ]; then printf '${prefix}/%s' "${1#"$prefix"/}"; else printf %s "$1"; fi; }
     version=$(sed -n 's/^#define NDUSHAVIRE_VERSION "\(.*\)"$/\1/p' include/ndushavire.h)
-    text=$(<packaging/ndushavire.pc.in)
+    text=$(<"packaging/$1.pc.in")
     text=${text//@PREFIX@/"$prefix"}
     text=${text//@LIBDIR@/"$(under "$libdir")"}
     text=${text//@INCLUDEDIR@/"$(under "$includedir")"}
@@ -90,8 +95,8 @@ make_folder() { # PLACE
     install -d "$below$1"
 }
 
-install_all() { # ARCHIVE PROGRAM..
-    local i line
+install_all() { # ARCHIVE.. PROGRAM..
+    local i line library
     list_files "$@"
     for i in "${!sources[@]}"; do
         [ ! "$below${places[i]}" -ef "${sources[i]}" ] || fail "${sources[i]} would be installed over itself"
@@ -105,19 +110,22 @@ install_all() { # ARCHIVE PROGRAM..
         noted file "${places[i]}"
         install -m "${modes[i]}" "${sources[i]}" "$below${places[i]}"
     done
-    for i in $(functions); do
-        noted file "$mandir/man3/$i.3"
-        ln -sf ndushavire.3 "$below$mandir/man3/$i.3"
+    make_folder "$libdir/pkgconfig"
+    for library in "${libraries[@]}"; do
+        for i in $(functions "$library"); do
+            noted file "$mandir/man3/$i.3"
+            ln -sf "$library.3" "$below$mandir/man3/$i.3"
+        done
+        noted file "$libdir/pkgconfig/$library.pc"
+        pkg_config "$library" >"$below$libdir/pkgconfig/$library.pc"
+        chmod 644 "$below$libdir/pkgconfig/$library.pc"
     done
     for i in "${scripts[@]}"; do
         noted file "$docdir/examples/${i#*:}"
         script_of "${i%:*}" >"$below$docdir/examples/${i#*:}"
         chmod 755 "$below$docdir/examples/${i#*:}"
     done
-    make_folder "$libdir/pkgconfig"
-    noted file "$libdir/pkgconfig/ndushavire.pc"
-    pkg_config >"$below$libdir/pkgconfig/ndushavire.pc"
-    chmod 644 "$below$libdir/pkgconfig/ndushavire.pc" "$below$note"
+    chmod 644 "$below$note"
 }
 
 uninstall_all() {
@@ -145,5 +153,5 @@ case ${1-} in
 try) ;;
 install) install_all "${@:2}" ;;
 uninstall) uninstall_all ;;
-*) fail 'usage: install.sh try | install ARCHIVE PROGRAM.. | uninstall' ;;
+*) fail 'usage: install.sh try | install ARCHIVE.. PROGRAM.. | uninstall' ;;
 esac

@@ -125,7 +125,7 @@ static void ask_over(Said *said, const Request *r, Bytes area, Bytes profile) {
     uint8_t none = 0;
     memset(said, 0xEE, sizeof *said);
     said->word = ndushavire_decide(r->bytes, r->length, area.bytes, area.length, profile.bytes, profile.length, &none, 0, said->answer,
-                                   sizeof said->answer, NDUSHAVIRE_RFC_3588);
+                                   sizeof said->answer, NDUSHAVIRE_RFC_3588, NDUSHAVIRE_NO_FEATURES);
 }
 
 static int same_said(const Said *a, const Said *b) { return a->word == b->word && memcmp(a->answer, b->answer, sizeof a->answer) == 0; }

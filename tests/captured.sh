@@ -1,8 +1,8 @@
 #!/usr/bin/env bash
 # captured.sh ROOM MAKETABLE REFERENCE DECIDE..: each request in captured/, as real software sent it, gets from each DECIDE
 # what the independent program answers, with the result that its head names, rewrites the block that it should and uses the vectors
-# that it should, and no other, by either edition of the base standard; and the AVP at fault is named in the two that have one. An address in a
-# request has a word in its head. RUN, if set, is the emulator that runs a DECIDE.
+# that it should, and no other, by either edition of the base standard and whatever features are supported, since none of them asks for any; and the AVP
+# at fault is named in the two that have one. An address in a request has a word in its head. RUN, if set, is the emulator that runs a DECIDE.
 set -euo pipefail
 room=$1 maketable=$2 reference=$(cd "$(dirname "$3")" && pwd)/${3##*/}
 shift 3
@@ -72,6 +72,7 @@ for request in "$(dirname "$0")"/captured/*.hex; do
     for address in $(grep -a -o -E '([0-9]{1,3}\.){3}[0-9]{1,3}' "$room/request" || true); do
         grep '^#' "$request" | grep -q -F "$address" || fail "$name: the head has no word on $address"
     done
+    [[ $(od -An -v -tx4 --endian=big "$room/request") != *' 00000274 '* ]] || fail "$name has a Supported-Features, of which docs/INTEROPERABILITY.md says nothing"
     (cd "$room" && "$reference" answer <request) >"$room/answer" || fail "$name: the independent program fails"
     "$reference" show <"$room/answer" | grep -q -w "$result" || fail "$name: the independent program does not say $result"
     {
@@ -82,8 +83,9 @@ for request in "$(dirname "$0")"/captured/*.hex; do
         for block in ${used[$name]-}; do echo "vector block $block used"; done
     } >"$room/expected"
     for decide in "$@"; do
-        for edition in '' '-e 3588' '-e 6733'; do
-            ${RUN:+"$RUN"} "$decide" $edition "$room/table" "$room/profile" "$room/vectors" "$request" >"$room/said" || fail "$name: $decide $edition does not answer"
+        for edition in '' '-e 3588' '-e 6733' '-f 0xFFFFFFFF' '-e 6733 -f 3'; do
+            ${RUN:+"$RUN"} "$decide" $edition "$room/table" "$room/profile" "$room/vectors" "$request" >"$room/said" ||
+                fail "$name: $decide $edition does not answer"
             diff "$room/expected" "$room/said" >&2 || fail "$name: $decide $edition does otherwise than the independent program"
         done
     done

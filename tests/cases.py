@@ -5,8 +5,9 @@ Both are the independent program's: it makes the cases and says their outcomes. 
 one that shows it; of each result one, and then more: a refusal with what it returns besides; a command with its result; of a SAR past the
 reading rules also its type, and where it succeeds or meets a wrong state also keep, the state, whether it names many identities and whether
 it is about a set; of a MAR that succeeds the state, whether it is about a set and whether the record changes; of a UAR whether it is about
-a set; of a report how it ends and what it counts; of all the edition of the table or area, and that of the base standard. After them stand the requests of real software in captured/,
-each over the table and the vectors that their heads describe. Nothing here is random: a second run writes the same bytes."""
+a set; of a report how it ends and what it counts; of all the edition of the table or area, and that of the base standard. After them stand the
+requests of real software in captured/, each over the table and the vectors that their heads describe. Nothing here is random: a second run
+writes the same bytes."""
 import collections, pathlib, struct, sys
 
 import streams
@@ -15,7 +16,7 @@ from streams import answer, avps, made, outcomes, run
 MOST = 930_000  # bytes of cases
 CX = 10415
 RULES = tuple(('B', n) for n in (5001, 5004, 5014, 3009, 5011, 3008, 3001, 3007))
-KNOWN = {(n, 0) for n in (263, 260, 277, 264, 296, 293, 283, 1, 284, 282)} | {(n, CX) for n in (601, 600, 623, 602, 614, 624, 607, 612)}
+KNOWN = {(n, 0) for n in (263, 260, 277, 264, 296, 293, 283, 1, 284, 282)} | {(n, CX) for n in (601, 600, 623, 602, 614, 624, 607, 612, 628)}
 EFFECTS = ('B', 2001), ('X', 2004), ('X', 5007)
 
 
@@ -36,7 +37,7 @@ def edition(case):
     """Byte 1 of its table or area, if that is one of the two editions; and which base standard its peer follows, if that is one of the two."""
     held = streams.slices(case)
     said = held.get('table', held.get('area', b''))[1:2]
-    return said if said in (b'\1', b'\2') else b'', [peer for peer in case.numbers if case.entry in streams.NUMBERS and peer in (3588, 6733)] == [6733]
+    return said if said in (b'\1', b'\2') else b'', case.entry in streams.NUMBERS and case.numbers[0] == 6733
 
 
 def row(case, outcome):
@@ -56,7 +57,7 @@ def row(case, outcome):
             said = 'X', number(dict(avps(data))[298, 0])
         elif kind == (279, 0):
             carried.append((279, next((k if k in KNOWN else 0 for k, _ in avps(data)), None)))
-        elif kind[0] in (1, 602, 603, 606, 612):
+        elif kind[0] in (1, 602, 603, 606, 612, 628):
             carried.append(kind)
     command, given = int.from_bytes(asked[5:8], 'big'), list(avps(asked[20:]))
     result = command if command in (300, 301, 302, 303) else 0, said
@@ -99,7 +100,7 @@ def small(case):
 def fitting(reference):
     """Cases that fit, the smallest first."""
     found = []
-    few = [(kind, (1,), 4000) for kind in ('tables', 'vectors', 'reports', 'moves', 'takes')]
+    few = [(kind, (1,), 4000) for kind in ('tables', 'vectors', 'reports', 'moves', 'takes', 'lists', 'voicemail')]
     for kind, seeds, count in (*few, ('calls', range(1, 6), 20000)):
         for seed in seeds:
             found += [case for case in streams.cases(made(reference, kind, seed, count)) if fits(case)]

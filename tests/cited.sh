@@ -54,12 +54,14 @@ export PKG_CONFIG_PATH=$prefix/lib/pkgconfig PATH=$prefix/bin:$PATH
 sed -n '/^## Try it/,/^## /s/^    \$ //p' "$readme" >"$room/commands"
 [ "$(wc -l <"$room/commands")" -ge 8 ] || fail 'the README has no trial'
 cc=$*
-sed -e "s|PREFIX|$prefix|" -e "s|^cc \(.*pkg-config\)|$cc \1|" -e "s#^\./\(decide\|move\|report\|take\)#${RUN:-} ./\1#" "$room/commands" >"$room/trial.sh"
+sed -e "s|PREFIX|$prefix|" -e "s|^cc \(.*pkg-config\)|$cc \1|" -e "s#^\./\(decide\|userdata\|move\|report\|take\)#${RUN:-} ./\1#" "$room/commands" >"$room/trial.sh"
 (cd "$room/trial" && sh -eu ../trial.sh) >"$room/said" || fail 'the trial in the README fails'
 grep -q -x 'answered, 168 bytes' "$room/said" || fail 'the trial gives another answer'
 grep -q -x 'vector block 5 used' "$room/said" || fail 'the trial uses no vector'
 fault=$(sed -n 's/^    \(B[0-9]* at byte .*\)/\1/p' "$readme")
 [ -n "$fault" ] && grep -q -x -F -e "$fault" "$room/said" || fail 'the trial blames another AVP'
+told=$(sed -n 's/^    \(<?xml .*\)/\1/p' "$readme")
+[ -n "$told" ] && grep -q -x -F -e "$told" "$room/said" || fail 'the trial tells a voicemail box something else'
 report=$(sed -n '/^    \$ \.\/report/,/^    \$ /{/^    \$ /d; s/^    //p; /^$/p}' "$readme")
 [ -n "$report" ] && [[ $(cat "$room/said") = *"$report"* ]] || fail 'the trial reports other numbers'
 grep -q -x 'public=sip:erin@isle private=erin@isle' "$room/said" || fail 'the trial shows no table'

@@ -15,7 +15,7 @@ import subprocess
 import sys
 import time
 
-CX, CER, DWR, DPR, UAR, SAR, LIR, MAR = 16777216, 257, 280, 282, 300, 301, 302, 303
+CX, SH, CER, DWR, DPR, UAR, SAR, LIR, MAR, UDR = 16777216, 16777217, 257, 280, 282, 300, 301, 302, 303, 306
 USERS, VECTORS = 40, 22
 NOBODY = 65534
 SERVER = b"sip:scscf1.isle:6060"
@@ -96,15 +96,21 @@ def cer(application=CX, **more):
                 avp(260, avp(266, 10415) + avp(258, application)), **more)
 
 
-def application(vendors=1):
-    return avp(260, avp(266, 10415) * vendors + avp(258, CX))
+def application(vendors=1, of=CX):
+    return avp(260, avp(266, 10415) * vendors + avp(258, of))
 
 
-def request(command, own, end=None, hop=None, route=b"", flags=0xC0, host=b"scscf1.isle", vendors=1):
+def supported(bits, listed=1, vendor=10415, marked=True):
+    """Supported-Features; without M, and of the bits that a server supports, it is that server's own list."""
+    word = lambda number: struct.pack(">I", number)
+    return avp(628, avp(266, vendor) + avp(629, word(listed), 10415, 0) + avp(630, word(bits), 10415, 0), 10415, 0x40 if marked else 0)
+
+
+def request(command, own, end=None, hop=None, route=b"", flags=0xC0, host=b"scscf1.isle", vendors=1, of=CX):
     end = fresh_end() if end is None else end
     head = avp(263, b"scscf1.isle;1;%d" % end) + avp(264, host) + avp(296, b"isle") + avp(283, b"isle")
-    head += application(vendors) + avp(277, 1)
-    return message(command, head + own + route, end=end, hop=end if hop is None else hop, flags=flags)
+    head += application(vendors, of) + avp(277, 1)
+    return message(command, head + own + route, of, end=end, hop=end if hop is None else hop, flags=flags)
 
 
 def public(user):
@@ -129,6 +135,17 @@ def sar(user, kind, **more):
 
 def mar(user, many=1, **more):
     return request(MAR, public(user) + private(user) + cx(607, many) + cx(612, cx(608, b"Digest-AKAv1-MD5")) + cx(602, SERVER), **more)
+
+
+def udr(user, references=(11, 12), of=SH, **more):
+    return request(UDR, cx(700, public(user)) + b"".join(cx(703, one) for one in references), of=of, **more)
+
+
+def document(state=None, name=b""):
+    """What User-Data holds of a state and a server name, those that were asked for and are there."""
+    told = b"<SCSCFName>%s</SCSCFName>" % name if name else b""
+    told += b"<IMSUserState>%d</IMSUserState>" % state if state is not None else b""
+    return b'<?xml version="1.0" encoding="UTF-8"?><Sh-Data><Sh-IMS-Data>%s</Sh-IMS-Data></Sh-Data>' % told
 
 
 # ---- the daemon and its files
@@ -297,7 +314,7 @@ def greeting(room):
     have = dict(avps_of(client.greeting[20:]))
     want(have[264] == b"hss.isle" and have[296] == b"isle" and have[257] == b"\0\1\x7f\0\0\1" and have[266] == struct.pack(">I", 10415),
          "a CEA with another origin")
-    want(dict(avps_of(have[260])) == {266: struct.pack(">I", 10415), 258: struct.pack(">I", CX)} and 269 in have, "a CEA with another application")
+    want(all_of(client.greeting, 260) == [application(of=of)[8:] for of in (CX, SH)] and 269 in have, "a CEA with other applications")
     want(client.greeting[4] == 0 and client.greeting[12:20] == cer()[12:20], "a CEA with another header")
     want(result(client.ask(base(DWR, hop=7, end=8))) == "B2001", "a DWR is not answered with success")
     want(result(client.ask(cer(hop=9))) == "B2001", "a second CER is not answered")
@@ -306,7 +323,7 @@ def greeting(room):
     client = Client(room, greet=False)
     want(result(client.ask(base(CER, avp(258, CX)))) == "B2001", "a CER with less in it, as some send it first, is not taken")
     client = Client(room, greet=False)
-    want(result(client.ask(cer(application=4))) == "B5010" and client.is_gone(), "a peer without Cx stays")
+    want(result(client.ask(cer(application=4))) == "B5010" and client.is_gone(), "a peer without Cx and Sh stays")
     for first in lir(1), base(DWR), cer()[:4] + b"\0" + cer()[5:], message(CER, b"", application=0, flags=0x80), message(CER, avp(264, b"x")):
         client = Client(room, greet=False)
         client.send(first)
@@ -772,8 +789,8 @@ def isle(issue, users=120):
 
 
 def issue_of(answer):
-    """The issue that an answer was given from: of its host, which is in the header, and of its server, which is in a record."""
-    host, server = all_of(answer, 264), all_of(answer, 602)
+    """The issue that an answer was given from: of its host, which is in the header, and of its server, which is in a record; over Sh it is in the document."""
+    host, server = all_of(answer, 264), all_of(answer, 602) or re.findall(b"<SCSCFName>(.*)</SCSCFName>", b"".join(all_of(answer, 702)))
     found = re.fullmatch(rb"hss(\d+)\.isle", host[0])
     want(found and server == [b"sip:s%s.isle:6060" % found.group(1)], "an answer of half a table: %s, %s" % (host, server))
     return int(found.group(1))
@@ -820,7 +837,7 @@ def taken(room):
         """From the old table, and from some question on from the new one."""
         got, until = [], time.time() + min(last, PATIENCE)
         while (not got or got[-1] != issue) and time.time() < until:
-            got.append(issue_of(client.ask(lir(10 + len(got) % 30))))
+            got.append(issue_of(client.ask((lir, udr)[len(got) % 2](10 + len(got) % 30))))
         want(got[-1] == issue and got == sorted(got), "the tables that answers come from: %s" % sorted(set(got)))
         return len(got)
 
@@ -950,15 +967,125 @@ def editions(room):
                 want(edition == 3588 or all_of(answer, 279) == [application(2)], "Failed-AVP has not the whole 260")
             want((edition == 6733) == ("peer %s: B5009 at byte " % host in room.log()), "the log, by RFC %d of %s" % (edition, host))
             room.logged("peer %s: open, RFC %d\\b" % (re.escape(host), edition))
-        # One request that comes by several peers, those by RFC 6733 first: nobody is turned away by another's edition.
-        asked = sar(1, 0, vendors=2)
-        for client, host, edition in sorted(clients, key=lambda one: -one[2]):
-            want(result(client.ask(asked)) == ("B5009" if edition == 6733 else "B5012"), "a request that comes again, by RFC %d of %s" % (edition, host))
+        # One request that comes by several peers, those by RFC 6733 first, and then those by RFC 3588. Nobody is turned away by another's edition: B5009
+        # is not remembered. What was done by RFC 3588 is: it is not done again, and everybody is sent that answer.
+        for order in -1, 1:
+            want(result(client.ask(sar(2, 1))) == "B2001", "no registration")
+            asked, done = sar(2, 5, vendors=2), None
+            for client, host, edition in sorted(clients, key=lambda one: order * one[2]):
+                answer = client.ask(asked)
+                want(answer == done if done else result(answer) == ("B5009" if edition == 6733 else "B2001"),
+                     "a request that comes again, by RFC %d of %s" % (edition, host))
+                done = answer if edition == 3588 else done
+            want(room.lines()[b"sip:user2@isle"][0] == (0 if done else 1), "a removal with two Vendor-Ids, on disk")
         # The name that a peer gives last is its own.
         client = clients[1][0]
         client.ask(cer(host=gateway))
         want(result(client.ask(lir(1, vendors=2))) == ("B5009" if of_gateway == 6733 else "X2003"), "a second CER")
         room.end()
+
+
+def features(room):
+    """What is supported is told to whoever asks, to all peers alike. More than that, with M, is X5011, whatever was wanted, and the log says what it was."""
+    everything = 0xFFFFFFFF
+    for options, bits in (
+            ("", 0), ("-f 0", 0), ("-f 5", 5), ("-f 0x5", 5), ("-f 26", 26), ("-f 0X1a", 26), ("-f 5 -f 0x00000001A", 26), ("-f 0xFFFFFFFF", everything),
+            ("-f 4294967295", everything), ("-f 2147483648 -e 6733=gw.mainland.example", 1 << 31)):
+        room.start(options=options.split())
+        room.logged(r"listening on 127\.0\.0\.1 port \d+, %d records, features 0x%x\n" % (USERS, bits))
+        own = supported(bits, marked=False)
+        outside = next((1 << n for n in range(32) if not bits >> n & 1), None)
+        for host in b"scscf1.isle", b"gw.mainland.example":
+            client = Client(room, host=host)
+            for ask, alone in (lir, "X2003"), (uar, "X2001"), (lambda user, **more: sar(user, 0, **more), "B5012"):
+                plain = client.ask(ask(1))
+                want(result(plain) == alone and all_of(plain, 628) == [], "nobody asked, and %s is %s" % (alone, result(plain)))
+                for asking in supported(bits), supported(0), supported(everything, 2, 13019, marked=False), supported(bits) + supported(0):
+                    answer = client.ask(ask(1, route=asking))
+                    want(result(answer) == alone, "with '%s' %s instead of %s" % (options, result(answer), alone))
+                    want(answer.count(own) == 1 and avps_of(answer[20:])[6] == (628, own[12:]), "with '%s' it is not told what is supported" % options)
+            # What asks for too much stands among others, which do not.
+            name, fine = host.decode(), supported(everything, marked=False) + supported(bits)
+            for bit, listed, vendor in [(outside, 1, 10415)] * (outside is not None) + [(0, 2, 10415), (bits, 1, 13019)]:
+                much = dict(route=fine + supported(bit, listed, vendor) + fine)
+                for asked in lir(1, **much), lir(77, **much), sar(1, 1, **much), mar(1, **much):
+                    answer = client.ask(asked)
+                    want(result(answer) == "X5011" and answer.endswith(own) and len(all_of(answer, 628)) == 1,
+                         "with '%s' %s for too much" % (options, result(answer)))
+                asked = sar(2, 1, **much)
+                want(client.ask(asked) == client.ask(asked), "a request that comes again gets another answer")
+                room.logged(r"peer %s: X5011: it asks for features 0x%x of list %d of vendor %d, and 0x%x of list 1 are supported\n" % (
+                    re.escape(name), bit, listed, vendor, bits))
+            room.logged(r"peer %s: no challenge for user1@isle: X5011\n" % re.escape(name))
+        want(room.lines()[b"sip:user1@isle"] == (0, 0, b"") and not room.used(), "X5011 alters something")
+        client.ask(sar(1, 1, route=supported(bits)))
+        want(room.lines()[b"sip:user1@isle"] == (1, 0, SERVER), "what is supported keeps from being registered")
+        want(len(rands(client.ask(mar(1, route=supported(bits))))) == 1, "what is supported keeps from being challenged")
+        client.ask(sar(1, 5))
+        room.end()
+        room.make("vectors", cards(), room.at("cards", "vectors"))
+
+
+def voicemail(room):
+    """A voicemail box asks over Sh what call servers left over Cx, and is told it from the moment when it is on disk; nothing that it asks alters anything."""
+    room.start(options=["-e", "6733=gw.mainland.example"])
+
+    def greeted(of, host=b"vm.isle"):
+        client = Client(room, greet=False)
+        have = client.ask(cer(application=of, host=host))
+        want(result(have) == "B2001" and all_of(have, 260) == [application(of=one)[8:] for one in (CX, SH)], "a peer of application %d is not welcome" % of)
+        return client
+
+    box, relay, gateway, server = greeted(SH), greeted(0xFFFFFFFF), greeted(SH, b"gw.mainland.example"), greeted(CX)
+
+    def told(user, state, name, by=box):
+        both = document(state, name)
+        for references, expected in ((11, 12), both), ((12, 11, 12), both), ([11], document(state)), ([12], document(name=name)):
+            answer = by.ask(udr(user, references))
+            want(result(answer) == "B2001" and answer[8:12] == struct.pack(">I", SH), "%s for what is known" % result(answer))
+            want(all_of(answer, 702) == [expected], "%s is told of references %s" % (all_of(answer, 702), references))
+
+    files = [room.at("live", "table"), room.at("live", "profile"), room.at("cards", "vectors")]
+    kept = lambda: [(os.stat(file).st_ino, os.stat(file).st_mtime_ns, open(file, "rb").read()) for file in files]
+    for asked, got, state, name in ((lir(1), "X2003", 0, b""), (mar(1), "B2001", 3, SERVER), (sar(1, 1), "B2001", 1, SERVER), (mar(1), "B2001", 1, SERVER),
+                                    (sar(1, 6), "B2001", 2, SERVER), (sar(1, 5), "B2001", 0, b"")):
+        want(result(server.ask(asked)) == got, "a call server does not get %s" % got)
+        before = kept()
+        for by in box, relay, gateway, server:
+            told(1, state, name, by)
+        want(kept() == before, "a file is another after it was asked")
+    before = kept()
+    for asked, got in ((udr(77), "X5001"), (udr(77, [10]), "X5001"), (udr(1, [10]), "X5100"), (udr(1, [11, 12, 17]), "X5100"), (udr(1, []), "B5005"),
+                       (udr(1, route=supported(0xFFFFFFFF, 2, 13019)), "B2001"), (udr(1, route=public(1)), "B5001"),
+                       (udr(1, of=CX), "B3001"), (udr(1, of=4), "B3001"), (lir(1, of=SH), "B3001"), (sar(1, 1, of=SH), "B3001"), (mar(1, of=SH), "B3001"),
+                       (request(999, b"", of=SH), "B3001")):
+        answer = box.ask(asked)
+        want(result(answer) == got, "%s instead of %s" % (result(answer), got))
+        want(all_of(answer, 628) == [] and (all_of(answer, 702) != []) == (got == "B2001"), "what %s carries" % got)
+        # The group is that of the library that answered: Sh's for application 16777217, and Cx's for all others.
+        want(all_of(answer, 260) == [application(of=SH if asked[8:12] == struct.pack(">I", SH) else CX)[8:]], "%s by the other library" % got)
+    want(kept() == before, "an error alters a file")
+    want("no challenge" not in room.log(), "the log has a MAR of Sh as one of Cx")
+    for client, edition in (gateway, 6733), (box, 3588):
+        want(result(client.ask(udr(1, vendors=2))) == ("B5009" if edition == 6733 else "B2001"), "a second Vendor-Id by RFC %d" % edition)
+    room.logged(r"peer gw\.mainland\.example: B5009 at byte \d+: AVP 260 ")
+    want(result(box.ask(request(UDR, cx(700, public(1) + public(1)) + cx(703, 11), of=SH))) == "B5004", "two identities")
+    room.logged(r"peer vm\.isle: B5004 at byte \d+: AVP 700 vendor 10415 ")
+    # Both interfaces in one write, and a disk without room, which keeps no UDR from being answered: of what is not stored nobody hears.
+    many = [lir(2), udr(2), uar(2), udr(3), udr(77), lir(2)]
+    relay.send(b"".join(many))
+    want([result(relay.answer()) for _ in many] == ["X2003", "B2001", "X2001", "B2001", "X5001", "X2003"], "both interfaces in one write")
+    open(room.at("disk-full"), "w").close()
+    server.send(sar(2, 1))
+    want(server.answer(0.3) is None, "what is not stored is answered")
+    told(2, 0, b"")
+    os.unlink(room.at("disk-full"))
+    want(result(server.ask(sar(2, 1))) == "B2001", "no registration")
+    told(2, 1, SERVER)
+    room.kill()
+    room.start()
+    told(2, 1, SERVER, greeted(SH))
+    room.end()
 
 
 def timed_out(room):
@@ -1215,7 +1342,7 @@ def kills(room):
 
 
 TRIALS = {trial.__name__: trial for trial in (greeting, cut, many, garbage, slow, replaced, declined, two_users, laid_over, sizes, taken,
-                                              taken_over_kills, put_in, timed_out, editions,
+                                              taken_over_kills, put_in, timed_out, editions, features, voicemail,
                                               last_good, ending, twice, crowded, full, kills, spoilt)}
 
 

@@ -1,8 +1,9 @@
 /* daemon FOLDER TABLE PROFILE VECTORS QUESTION ASSIGNMENT CHALLENGE RUBBISH: example.c, which is the daemon of ndushavire(3) or that of the
  * examples, on a disk that fails. Its system calls fail, or are its last, or the last before a power cut, one by one and two by two; it is
  * started again, and its peer asks until it is answered. No answer may go out while a power cut could bring back another table or vector
- * file than it was given from, and no vector twice. To RUBBISH, which has an AVP at fault, its log says where it hurts. Each peer gets
- * the answer by the edition that is stated of it. A daemon that looks for new tables has an unsound one laid over its own: until its own is stored again that one stays, and what alters is not answered.
+ * file than it was given from, and no vector twice. To RUBBISH, which has an AVP at fault, its log says where it hurts. Each peer gets the
+ * answer by the base standard that is stated of it, and whoever asks for features is told those that are supported. A daemon that looks for new
+ * tables has an unsound one laid over its own: until its own is stored again that one stays, and what alters is not answered.
  * The disk is a model: what is in the folders is what every reader sees, and only what was flushed is on disk. */
 #define _GNU_SOURCE /* memmem, MAP_ANONYMOUS */
 #include <stdarg.h>
@@ -246,18 +247,22 @@ static int disk_close(int file) {
 #ifndef MORE_LOGGED
 #define MORE_LOGGED "" /* what else the log has of a request with an AVP at fault */
 #endif
+#ifndef UNSUPPORTED_LOGGED
+#define UNSUPPORTED_LOGGED "" /* and of one that asks for what is not supported */
+#endif
 #ifndef PAIRED
 #define PAIRED WAYS /* how many of the ways are tried two by two */
 #endif
 
 /* ---- the peer */
 
-static Bytes old_file[NAMES], old_profile, question, assignment, challenge, rubbish, doubled;
+static Bytes old_file[NAMES], old_profile, question, assignment, challenge, rubbish, doubled, asking;
 
 /* A line that nobody has registered is challenged, assigned, challenged anew; the last assignment finds its work done. */
 static const Bytes *const asked[REQUESTS] = {&question, &challenge, &assignment, &challenge, &question, &assignment};
 static Bytes expected[REQUESTS + 1]; /* the table before the first request and after each */
 static int rotten;                   /* whether the vector file is unsound */
+static int told_features;            /* whether the answer to come has the features that are supported */
 
 static int same(const Bytes *a, const uint8_t *b, size_t length) { return a->length == length && memcmp(a->bytes, b, length) == 0; }
 
@@ -274,6 +279,14 @@ int refused(int peer, uint64_t word) {
 }
 
 uint32_t edition_stated(int peer) { return peer == ANOTHER ? NDUSHAVIRE_RFC_6733 : NDUSHAVIRE_RFC_3588; }
+
+/* A Supported-Features (628), of bits 0 and 2: as the server sends it, or with M, as one that asks for it. */
+enum { BITS_AT = 55, FLAGS_AT = 4 };
+static const uint8_t own_list[] = {0, 0, 2, 0x74, 0x80, 0, 0, 56, 0, 0, 0x28, 0xAF, 0, 0, 1, 10, 0x40, 0, 0, 12, 0, 0, 0x28, 0xAF,
+                                   0, 0, 2, 0x75, 0x80, 0, 0, 16, 0, 0, 0x28, 0xAF, 0, 0, 0, 1,
+                                   0, 0, 2, 0x76, 0x80, 0, 0, 16, 0, 0, 0x28, 0xAF, 0, 0, 0, 5};
+
+uint32_t features_stated(void) { return own_list[BITS_AT]; }
 
 static int used_on_disk(size_t block) { return model->on_disk[VECTORS].length > 512 * block && model->on_disk[VECTORS].bytes[512 * block + 1] == 1; }
 
@@ -317,6 +330,8 @@ int send_all(int peer, const uint8_t *bytes, size_t length) {
     if (!seen(TABLE, table.bytes, table.length)) broken("an answer went out, and the disk may have more than it was given from");
     for (size_t at = 0; at < vectors.length; at += 512)
         if (vectors.bytes[at + 1] == 1 && !used_on_disk(at / 512)) broken("an answer went out, and a vector is used in memory alone");
+    if ((memmem(bytes, length, own_list, sizeof own_list) != NULL) != told_features)
+        broken(told_features ? "the features that are supported are not told" : "features are told that nobody asked for");
     if (peer == ANOTHER) return 1;
     if (!same(&expected[peer + 1], table.bytes, table.length)) broken("a request was answered and not carried out");
     if (vectors_in(bytes, length) != (asked[peer] == &challenge && !rotten)) broken("an answer has more vectors or fewer than were asked for");
@@ -404,7 +419,8 @@ static int expect(void) {
         Bytes *to = &expected[i + 1];
         *to = expected[i];
         if (!ndushavire_answered(ndushavire_decide(asked[i]->bytes, asked[i]->length, to->bytes, to->length, old_profile.bytes,
-                                                   old_profile.length, lent.bytes, lent.length, answer, sizeof answer, NDUSHAVIRE_RFC_3588)))
+                                                   old_profile.length, lent.bytes, lent.length, answer, sizeof answer, NDUSHAVIRE_RFC_3588,
+                                                   features_stated())))
             return 0;
     }
     return !same(&expected[2], expected[3].bytes, expected[3].length) && (rotten || !same(&expected[1], expected[2].bytes, expected[2].length));
@@ -565,6 +581,21 @@ static int try_doubled(void) {
                 "    112: 000028AF 0000010A 4000000C 000028AF\n");
 }
 
+/* The question, asking for the features that are supported, and then for one that is not. */
+static int try_features(void) {
+    asking = question;
+    memcpy(asking.bytes + question.length, own_list, sizeof own_list);
+    asking.bytes[question.length + FLAGS_AT] |= 0x40;
+    asking.length += sizeof own_list;
+    asking.bytes[3] = (uint8_t)(asking.bytes[3] + sizeof own_list);
+    told_features = 1;
+    int right = logs(ANOTHER, &asking, &asking, "");
+    asking.bytes[asking.length - 1] = 2;
+    right = right && logs(ANOTHER, &asking, &asking, UNSUPPORTED_LOGGED UNSUPPORTED_LOGGED);
+    told_features = 0;
+    return right;
+}
+
 int main(int argc, char **argv) {
     if (argc != 9) {
         fprintf(stderr, "usage: daemon FOLDER TABLE PROFILE VECTORS QUESTION ASSIGNMENT CHALLENGE RUBBISH\n");
@@ -591,7 +622,7 @@ int main(int argc, char **argv) {
         fprintf(stderr, "daemon: the assignment or the challenge alters nothing\n");
         return 2;
     }
-    if (!try_doubled()) return 1;
+    if (!try_doubled() || !try_features()) return 1;
     if (try_all_covered() == 0 || !try_faults(none, none, 0) || !prepare(none, none, 0)) return 1;
     live(); /* not forked, so that an emulator has translated it all */
     if (fchdir(folders[VECTORS]) != 0) return 2;

@@ -1,9 +1,9 @@
 #!/usr/bin/env bash
-# daemon.sh ROOM MAKETABLE ARCHIVE CC..: builds the daemon that ndushavire(3) shows and runs it on a disk that fails (daemon.c). Then
+# daemon.sh ROOM MAKETABLE ARCHIVES CC..: builds the daemon that ndushavire(3) shows and runs it on a disk that fails (daemon.c). Then
 # it leaves out one thing after the other, of the page or of store.h, and sees that each is noticed. Then the same with the daemon of the
 # examples. RUN, if set, is the emulator.
 set -euo pipefail
-room=$1 maketable=$2 archive=$3
+room=$1 maketable=$2 archives=($3)
 shift 3
 compiler=("$@")
 run=(${RUN:+"$RUN"})
@@ -35,20 +35,29 @@ bytes_of "$tests/captured/scscf-12-sar.hex" >"$room/assignment"
 bytes_of "$tests/captured/mar-33.hex" >"$room/challenge"
 bytes_of "$tests/captured/mar-16.hex" >"$room/rubbish"
 
-# The first display of the page's examples, as C.
-sed -n '/^\.Sh EXAMPLES/,/^\.Ed/{/^\.Bd/,/^\.Ed/p}' "$top/man/ndushavire.3" | sed '/^\./d; s/\\e/\\/g; s/\\&//g' >"$room/source/example.c"
+# The first display of a page's examples, as C.
+shown() { sed -n '/^\.Sh EXAMPLES/,/^\.Ed/{/^\.Bd/,/^\.Ed/p}' "$top/man/$1" | sed '/^\./d; s/\\e/\\/g; s/\\&//g'; } # PAGE
+shown ndushavire.3 >"$room/source/example.c"
 grep -q -F 'ndushavire_decide(' "$room/source/example.c" || fail 'the page has no daemon'
 cp "$top"/examples/{fault,load,store}.h "$room/source/"
 
 source=source flags=()
 build() { # SOURCES PROGRAM [OPTION]
-    "${compiler[@]}" -std=c99 -O2 -Wall -Wextra -pedantic -Werror "${flags[@]}" "${@:3}" -I"$top/include" -I"$1" -o "$2" "$tests/daemon.c" "$archive"
+    "${compiler[@]}" -std=c99 -O2 -Wall -Wextra -pedantic -Werror "${flags[@]}" "${@:3}" -I"$top/include" -I"$1" -o "$2" "$tests/daemon.c" "${archives[@]}"
 }
 tried() { # PROGRAM
     "${run[@]}" "$1" "$disk" "$room/table" "$room/profile" "$room/vectors" "$room/question" "$room/assignment" "$room/challenge" "$room/rubbish"
 }
 build "$room/source" "$room/daemon"
 tried "$room/daemon"
+# ndushavire_sh(3) has the calls of both libraries in the place of that one: the daemon goes on as before.
+cp -r "$room/source" "$room/both"
+shown ndushavire_sh.3 | sed 's/^/    /' >"$room/both/calls"
+grep -q -F 'ndushavire_sh_decide(' "$room/both/calls" || fail 'the page of Sh has no call'
+sed -i -e "/^    uint64_t word = ndushavire_decide(/,/;\$/{/;\$/r $room/both/calls" -e 'd}' -e 's/^#include <ndushavire.h>/#include <ndushavire_sh.h>/' "$room/both/example.c"
+grep -q '^    if (request_len >= ' "$room/both/example.c" || fail 'the calls of both libraries have no place'
+build "$room/both" "$room/both/daemon"
+tried "$room/both/daemon"
 
 # With one thing left out the run must end with status 1.
 without() { # ABOUT FILE SED..
@@ -79,8 +88,10 @@ without 'a table that is stored before the vectors' example.c 's/if (!durable(&v
 without 'vectors that are unsound and lent as they are' example.c 's/vectors.length = 0;/;/'
 without 'an AVP at fault that is not logged' example.c 's/if (ndushavire_place(word) != 0) {/if (0) {/'
 without 'an AVP logged that is not at fault' example.c 's/if (ndushavire_place(word) != 0) {/{/'
-without 'an edition that is not the peer'"'"'s' example.c 's/edition_stated(peer))/NDUSHAVIRE_RFC_3588)/'
-without 'an edition that is another peer'"'"'s' example.c 's/edition_stated(peer))/NDUSHAVIRE_RFC_6733)/'
+without 'an edition that is not the peer'"'"'s' example.c 's/edition_stated(peer),/NDUSHAVIRE_RFC_3588,/'
+without 'an edition that is another peer'"'"'s' example.c 's/edition_stated(peer),/NDUSHAVIRE_RFC_6733,/'
+without 'features that are supported, and are not stated' example.c 's/features_stated())/NDUSHAVIRE_NO_FEATURES)/'
+without 'features that are stated, and are not supported' example.c 's/features_stated())/features_stated() | 2)/'
 without 'a word taken for a length' example.c 's/return send_all(peer, answer, ndushavire_value(word));/return send_all(peer, answer, word);/'
 without 'a file that is not flushed' store.h 's/ \&\& flushed(file);$/;/'
 without 'a folder that is not flushed' store.h 's/return flushed(folder) ? STORED : UNSURE;/return STORED;/'
@@ -88,7 +99,7 @@ echo "daemon.sh: the page's daemon answers from what is on disk and logs an AVP 
 
 # The daemon of the examples. Two calls that fail are tried, and of the other ways each by itself: store.h is the same.
 mkdir "$room/whole"
-cp "$top"/examples/{daemon.c,area.h,base.h,fault.h,files.h,log.h,peers.h,remember.h,store.h,taking.h} "$room/whole/"
+cp "$top"/examples/{daemon.c,area.h,base.h,fault.h,files.h,log.h,peers.h,remember.h,stated.h,store.h,taking.h} "$room/whole/"
 cp "$tests/whole.c" "$room/whole/example.c"
 source=whole flags=(-DPAIRED=1) noticed=0
 build "$room/whole" "$room/whole/daemon"
@@ -102,7 +113,10 @@ without 'a table that is stored before the vectors' files.h \
     's/(used \&\& !durable(&vectors)) || (rewritten \&\& !durable(&table))/(rewritten \&\& !durable(\&table)) || (used \&\& !durable(\&vectors))/'
 without 'vectors that are unsound and lent as they are' files.h 's/vectors.length = 0;/;/'
 without 'vectors of a MAR that are not looked at' files.h 's/= is_mar \&\& altered(&vectors)/= is_mar \&\& 0/'
-without 'an edition that is not the peer'"'"'s' daemon.c 's/sizeof answer, peer->edition)/sizeof answer, peer != NULL ? NDUSHAVIRE_RFC_3588 : 0)/'
+without 'an edition that is not the peer'"'"'s' daemon.c 's/sizeof answer, peer->edition,/sizeof answer, peer != NULL ? NDUSHAVIRE_RFC_3588 : 0,/'
+without 'features that are supported, and are not stated' daemon.c 's/peer->edition, features)/peer->edition, NDUSHAVIRE_NO_FEATURES)/'
+without 'an X5011 of which the log does not say what was asked for' daemon.c \
+    's/^    if (experimental_result(answer, length) != FEATURE_UNSUPPORTED) return;/    if (length > 0) return;/'
 without 'a success that is taken for an error' daemon.c 's/ \/ 1000 == 2; }/ \/ 1000 == 3; }/'
 without 'a table renamed away before ours is stored' files.h \
     's/^    const int folder = table.folder;$/&\n    renameat(folder, "table", folder, "table.declined");/'

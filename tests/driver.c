@@ -1,5 +1,5 @@
 /*
- * Calls the library's entries for the cases on standard input and writes what they did to standard output.
+ * Calls the libraries' entries for the cases on standard input and writes what they did to standard output.
  * Both forms are in reference/README.md, "Streams".
  */
 #include <stddef.h>
@@ -8,15 +8,7 @@
 #include <stdlib.h>
 #include <string.h>
 
-#include "ndushavire.h"
-
-/* From document 02's tenth request on, include/ndushavire.h declares ndushavire_decide and ndushavire_report with the peer's edition
- * of the base standard, 3588 or 6733, behind their slices:
- *
- *     uint64_t ndushavire_decide(.., uint8_t *answer, size_t answer_len, uint32_t peer);
- *     uint64_t ndushavire_report(.., uint8_t *report, size_t report_len, uint32_t peer);
- *
- * Under an older header this file does not compile. */
+#include "ndushavire_sh.h"
 
 #define GUARD 64u             /* bytes before and after every slice */
 #define LONGEST (1u << 26)    /* a longer slice is a broken stream */
@@ -53,7 +45,7 @@ static uint64_t check(const struct lent *lent)
 
 static uint64_t decide(const struct lent *lent)
 {
-    return ndushavire_decide(SLICE(0), SLICE(1), SLICE(2), SLICE(3), SLICE(4), lent->number[0]);
+    return ndushavire_decide(SLICE(0), SLICE(1), SLICE(2), SLICE(3), SLICE(4), lent->number[0], lent->number[1]);
 }
 
 static uint64_t check_vectors(const struct lent *lent)
@@ -63,7 +55,7 @@ static uint64_t check_vectors(const struct lent *lent)
 
 static uint64_t report(const struct lent *lent)
 {
-    return ndushavire_report(SLICE(0), SLICE(1), SLICE(2), SLICE(3), SLICE(4), SLICE(5), lent->number[0]);
+    return ndushavire_report(SLICE(0), SLICE(1), SLICE(2), SLICE(3), SLICE(4), SLICE(5), lent->number[0], lent->number[1]);
 }
 
 static uint64_t forward(const struct lent *lent)
@@ -81,20 +73,28 @@ static uint64_t take(const struct lent *lent)
     return ndushavire_take(SLICE(0), SLICE(1), SLICE(2));
 }
 
+static uint64_t sh_decide(const struct lent *lent)
+{
+    return ndushavire_sh_decide(SLICE(0), SLICE(1), SLICE(2), SLICE(3), lent->number[0]);
+}
+
 /* The entries by their number in the streams, from 1 on: a letter for each slice, r if it is lent to be read and w if
- * the entry may write to it; how many numbers; the call. */
+ * the entry may write to it; how many numbers; the call. Numbers 8 and 9 are those of entries that neither library has. */
 static const struct entry {
     const char *slices;
     unsigned numbers;
     uint64_t (*call)(const struct lent *lent);
 } entries[] = {
     {"rr", 0, check},
-    {"rwrww", 1, decide},
+    {"rwrww", 2, decide},
     {"r", 0, check_vectors},
-    {"rwrwww", 1, report},
+    {"rwrwww", 2, report},
     {"wr", 1, forward},
     {"wr", 0, back},
     {"wrr", 0, take},
+    {NULL, 0, NULL},
+    {NULL, 0, NULL},
+    {"rrrw", 1, sh_decide},
 };
 
 struct bytes {
@@ -282,7 +282,7 @@ static void run_case(const uint8_t head[4])
     struct lent lent;
     size_t room = GUARD, s;
 
-    if (head[0] < 1 || head[0] > sizeof entries / sizeof entries[0])
+    if (head[0] < 1 || head[0] > sizeof entries / sizeof entries[0] || entries[head[0] - 1].call == NULL)
         fail("a case of an entry that this driver does not have");
     entry = &entries[head[0] - 1];
     lent.fill = head[1];

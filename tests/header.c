@@ -1,8 +1,9 @@
-/* header: what ndushavire.h says by itself, in C and in C++, without the archive: its version in both forms, its limits, the
- * parts of a word, the words of a report, a table's edition and issue. Exit status: 0 all as it should be, 1 not so. */
+/* header: what ndushavire.h and ndushavire_sh.h say by themselves, in C and in C++, without the archives: the version in both forms, the limits, the
+ * parts of a word, the words of a report, a table's edition and issue, which requests are of Sh. Exit status: 0 all as it should be, 1 not so. */
 #include <stdio.h>
+#include <string.h>
 
-#include <ndushavire.h>
+#include <ndushavire_sh.h>
 
 static int wrong;
 
@@ -46,6 +47,28 @@ static void table_holds(void) {
     holds(ndushavire_edition(header) == 2 && ndushavire_issue(header) == 0x89ABCDEFu, "a table's edition and issue");
 }
 
+/* A request is of Sh by the application in its header, all four bytes of it, and by nothing else. */
+static void sh_holds(void) {
+    uint8_t request[NDUSHAVIRE_REQUEST_MIN];
+    int others = 1;
+    memset(request, 0xFF, sizeof request);
+    request[8] = request[11] = 1;
+    request[9] = request[10] = 0;
+    holds(ndushavire_sh_meant(request), "a request of Sh");
+    for (size_t at = 8; at < 12; at++)
+        for (unsigned bit = 1; bit < 256; bit *= 2) {
+            request[at] ^= (uint8_t)bit;
+            others &= !ndushavire_sh_meant(request);
+            request[at] ^= (uint8_t)bit;
+        }
+    holds(others, "a request of another application taken for one of Sh");
+#if NDUSHAVIRE_SH_APPLICATION != 16777217 || NDUSHAVIRE_SH_USER_DATA != 306 || NDUSHAVIRE_SH_STATE != 11 || \
+    NDUSHAVIRE_SH_SERVER_NAME != 12 || NDUSHAVIRE_SH_NOT_REGISTERED != 0 || NDUSHAVIRE_SH_REGISTERED != 1 || \
+    NDUSHAVIRE_SH_UNREGISTERED_SERVICES != 2 || NDUSHAVIRE_SH_AUTHENTICATION_PENDING != 3
+    holds(0, "a number of Sh is no number to the preprocessor");
+#endif
+}
+
 int main(void) {
     unsigned major, minor, patch;
     char rest;
@@ -58,7 +81,7 @@ int main(void) {
 #if NDUSHAVIRE_VERSION_NUMBER < 800 || NDUSHAVIRE_TABLE_MAX < 2 || NDUSHAVIRE_VECTOR_FILE_MAX < 2 || NDUSHAVIRE_REPORT_ROOM != 1160 || \
     NDUSHAVIRE_VECTORS_UNSOUND != 6 || NDUSHAVIRE_REQUESTS_BROKEN != 7 || NDUSHAVIRE_TABLE_HAS_SETS != 8 || NDUSHAVIRE_NEW_UNSOUND != 9 || \
     NDUSHAVIRE_ISSUE_NOT_GREATER != 10 || NDUSHAVIRE_AREA_SHORT != 11 || NDUSHAVIRE_PEER_UNKNOWN != 12 || NDUSHAVIRE_OUTPUT_SHORT != 15 || \
-    NDUSHAVIRE_RFC_3588 != 3588 || NDUSHAVIRE_RFC_6733 != 6733
+    NDUSHAVIRE_RFC_3588 != 3588 || NDUSHAVIRE_RFC_6733 != 6733 || NDUSHAVIRE_NO_FEATURES != 0
     holds(0, "a number is no number to the preprocessor");
 #endif
     const uint64_t word = (uint64_t)5 << 48 | (uint64_t)0xFFFF << 32 | 0x89ABCDEFu;
@@ -77,6 +100,7 @@ int main(void) {
     holds(ndushavire_answered(NDUSHAVIRE_ANSWER_ROOM) && ndushavire_sound(NDUSHAVIRE_RECORDS_MAX), "an answer taken for a refusal");
     report_holds();
     table_holds();
-    if (!wrong) printf("header: version %s, and the numbers of ndushavire.h agree\n", NDUSHAVIRE_VERSION);
+    sh_holds();
+    if (!wrong) printf("header: version %s, and the numbers of ndushavire.h and ndushavire_sh.h agree\n", NDUSHAVIRE_VERSION);
     return wrong;
 }

@@ -1,6 +1,6 @@
 #!/usr/bin/env bash
 # installs.sh ROOM CC..: installs into folders of ROOM as users and packagers do, compares what is there with what should be,
-# builds an example with what pkg-config says and nothing else, checks the sample with it, and sees that uninstalling takes away what
+# builds examples with what pkg-config says and nothing else, checks the sample with one, and sees that uninstalling takes away what
 # was installed and nothing more. What must not be a prefix is refused, and the tree stays as it is. RUN, if set, is the emulator.
 set -euo pipefail
 room=$1
@@ -19,17 +19,22 @@ fail() {
 command -v pkg-config >/dev/null || fail 'pkg-config is missing (Debian: pkg-config)'
 programs=(bin/ndushavire-maketable bin/ndushavire-showtable)
 [ "$(uname -m)" != x86_64 ] || programs+=(bin/answer bin/ndushavire-check bin/ndushavire-move bin/ndushavire-report bin/ndushavire-take bin/tablecheck)
-functions=$(sed -n -E '/^[a-z]/s/^[^(]* (ndushavire_[a-z_]+)\(.*/\1/p' "$top/include/ndushavire.h")
-[ "$(wc -l <<<"$functions")" -ge 18 ] || fail "the header has only $functions"
-for name in $functions; do
-    sed -n '/^\.Sh NAME/,/^\.Nd/p' "$top/man/ndushavire.3" | grep -q -E "^\.Nm $name( ,)?\$" || fail "ndushavire(3) does not name $name"
+# The functions of each library, which its page names.
+libraries=(ndushavire ndushavire_sh)
+functions_of() { sed -n -E '/^[a-z]/s/^[^(]* (ndushavire_[a-z_]+)\(.*/\1/p' "$top/include/$1.h"; } # LIBRARY
+functions=$(for library in "${libraries[@]}"; do functions_of "$library"; done)
+[ "$(wc -l <<<"$functions")" -ge 20 ] || fail "the headers have only $functions"
+for library in "${libraries[@]}"; do
+    for name in $(functions_of "$library"); do
+        sed -n '/^\.Sh NAME/,/^\.Nd/p' "$top/man/$library.3" | grep -q -E "^\.Nm $name( ,)?\$" || fail "$library(3) does not name $name"
+    done
 done
 version=$(sed -n 's/^#define NDUSHAVIRE_VERSION "\(.*\)"$/\1/p' "$top/include/ndushavire.h")
 quiet() { make -s -C "$top" "$@"; }
 
 # What should be there under a prefix; of documents, pages and examples whatever the tree has.
 {
-    printf '%s\n' "${programs[@]}" include/ndushavire.h lib/libndushavire.a lib/pkgconfig/ndushavire.pc \
+    printf '%s\n' "${programs[@]}" include/ndushavire{,_sh}.h lib/libndushavire{,_sh}.a lib/pkgconfig/ndushavire{,_sh}.pc \
         share/doc/ndushavire/{README.md,installed}
     printf 'share/man/man3/%s.3\n' $functions
     (cd "$top" && printf 'share/doc/ndushavire/%s\n' docs/*.md | sed 's|/docs/|/|')
@@ -37,8 +42,8 @@ quiet() { make -s -C "$top" "$@"; }
     (cd "$top" && printf 'share/doc/ndushavire/%s\n' examples/* examples/{icscf-20-lir,scscf-12-sar,mar-33,mar-16}.hex)
     (cd "$top" && printf '%s\n' man/* | sed 's|^man/\(.*\)\.\(.\)$|share/man/man\2/\1.\2|')
 } | sed '/^$/d' | sort >"$room/expected"
-for name in share/man/man1/{answer,tablecheck,ndushavire-{check,maketable,move,report,showtable,take}}.1 share/man/man3/ndushavire{,_value}.3 \
-    share/man/man7/ndushavire.7 share/doc/ndushavire/examples/{move.c,store.h}; do
+for name in share/man/man1/{answer,tablecheck,ndushavire-{check,maketable,move,report,showtable,take}}.1 share/man/man3/ndushavire{,_value,_sh,_sh_decide}.3 \
+    share/man/man7/ndushavire.7 share/doc/ndushavire/examples/{move.c,store.h,userdata.c}; do
     grep -q -x -F "$name" "$room/expected" || fail "the tree has no $name"
 done
 files_in() { (cd "$1" && find . ! -type d | sed 's|^\./||' | LC_ALL=C sort); }
@@ -49,11 +54,14 @@ installed() { # ROOT PREFIX LIBDIR INCLUDEDIR VARIABLE=..
     quiet install "PREFIX=$2" "${@:5}"
     files_in "$1" >"$room/found"
     diff "$room/expected" "$room/found" >&2 || fail "other files than expected under $1"
-    local of
-    for of in "prefix=$2" "libdir=$3" "includedir=$4"; do
-        [ "$(PKG_CONFIG_PATH=$1/lib/pkgconfig pkg-config --variable="${of%%=*}" ndushavire)" = "${of#*=}" ] || fail "pkg-config does not say $of"
+    local of library
+    for library in "${libraries[@]}"; do
+        for of in "prefix=$2" "libdir=$3" "includedir=$4"; do
+            [ "$(PKG_CONFIG_PATH=$1/lib/pkgconfig pkg-config --variable="${of%%=*}" "$library")" = "${of#*=}" ] ||
+                fail "pkg-config does not say $of of $library"
+        done
+        [ "$(PKG_CONFIG_PATH=$1/lib/pkgconfig pkg-config --modversion "$library")" = "$version" ] || fail "pkg-config does not say version '$version' of $library"
     done
-    [ "$(PKG_CONFIG_PATH=$1/lib/pkgconfig pkg-config --modversion ndushavire)" = "$version" ] || fail "pkg-config does not say version '$version'"
     [ -z "$(find "$1" -type f ! -perm -444)" ] && [ -z "$(find "$1" -type d ! -perm 755)" ] || fail "not for all to read: $(find "$1" ! -perm -444)"
     tried=$((tried + 1))
 }
@@ -83,12 +91,12 @@ installed "$odd" "$odd" "$odd/lib" "$odd/include" DESTDIR= # and once more over 
 # A packager's folders.
 quiet install PREFIX=/usr LIBDIR=/usr/lib/x86_64-linux-gnu/ MANDIR=/man INCLUDEDIR=/usr/include/island DOCDIR=/usr/share/doc/n \
     "DESTDIR=$room/package"
-for name in usr/lib/x86_64-linux-gnu/{libndushavire.a,pkgconfig/ndushavire.pc} man/man3/ndushavire_check.3 man/man1/answer.1 \
-    usr/include/island/ndushavire.h usr/share/doc/n/{installed,README.md,examples/check.c}; do
+for name in usr/lib/x86_64-linux-gnu/{libndushavire{,_sh}.a,pkgconfig/ndushavire{,_sh}.pc} man/man3/ndushavire_{check,sh_decide}.3 man/man1/answer.1 \
+    usr/include/island/ndushavire{,_sh}.h usr/share/doc/n/{installed,README.md,examples/check.c}; do
     [ -e "$room/package/$name" ] || fail "there is no $name of a package"
 done
-grep -q -x -F 'libdir=${prefix}/lib/x86_64-linux-gnu' "$room/package/usr/lib/x86_64-linux-gnu/pkgconfig/ndushavire.pc" ||
-    fail 'the pkg-config file has another libdir'
+[ "$(grep -l -x -F 'libdir=${prefix}/lib/x86_64-linux-gnu' "$room/package/usr/lib/x86_64-linux-gnu/pkgconfig/"* | wc -l)" = 2 ] ||
+    fail 'a pkg-config file has another libdir'
 [ "$(files_in "$room/package" | wc -l)" = "$(wc -l <"$room/expected")" ] || fail 'a package has other files'
 uninstalled "$room/package/usr" PREFIX=/usr DOCDIR=/usr/share/doc/n "DESTDIR=$room/package"
 uninstalled "$room/package/man" "PREFIX=$odd" DESTDIR=
@@ -97,7 +105,7 @@ uninstalled "$room/package/man" "PREFIX=$odd" DESTDIR=
 # The programs have their names and may be run, on whichever machine.
 mkdir "$room/made"
 touch "$room/made/"{answer,check,maketable,move,report,showtable,take}
-PREFIX=$room/named DESTDIR='' "$top/packaging/install.sh" install "$top/target/staticlib/libndushavire.a" "$room/made/"*
+PREFIX=$room/named DESTDIR='' "$top/packaging/install.sh" install "$top/target/staticlib/libndushavire"{,_sh}.a "$room/made/"*
 for name in answer ndushavire-{check,maketable,move,report,showtable,take}; do [ -x "$room/named/bin/$name" ] || fail "there is no $name to be run"; done
 [ "$(find "$room/named/bin" -type f | wc -l)" = 7 ] || fail 'other programs than the seven given'
 uninstalled "$room/named" "PREFIX=$room/named" DESTDIR=
@@ -132,10 +140,12 @@ tree | diff "$room/tree" - >&2 || fail 'make uninstall PREFIX= alters the tree'
 
 # An example, from what is installed and nothing else; the flags are for a shell to read.
 built() { # PREFIX
-    local flags
-    flags=$(PKG_CONFIG_PATH=$1/lib/pkgconfig pkg-config --cflags --libs ndushavire)
+    local of flags
     cp "$1/share/doc/ndushavire/examples/"* "$room/new/"
-    (cd "$room/new" && eval "\"\${compiler[@]}\" -std=c99 -o check check.c $flags")
+    for of in check:ndushavire userdata:ndushavire_sh daemon:ndushavire_sh; do
+        flags=$(PKG_CONFIG_PATH=$1/lib/pkgconfig pkg-config --cflags --libs "${of#*:}")
+        (cd "$room/new" && eval "\"\${compiler[@]}\" -std=c99 -o ${of%:*} ${of%:*}.c $flags")
+    done
     tried=$((tried + 1))
 }
 says() { # PROGRAM ARGUMENT..
@@ -150,8 +160,14 @@ for name in table profile; do "$room/prefix/bin/ndushavire-maketable" "$name" ho
 "$room/prefix/bin/ndushavire-maketable" vectors vectors.txt >vectors
 "$room/prefix/bin/ndushavire-showtable" table profile | grep -q '^public=sip:bob@isle ' || fail 'ndushavire-showtable does not show the sample'
 says ${RUN:+"$RUN"} ./check table profile vectors
-# Each name of the header leads to the one page.
-for name in $functions; do cmp "$room/prefix/share/man/man3/$name.3" "$room/prefix/share/man/man3/ndushavire.3" >&2 || fail "$name(3) is another page"; done
+${RUN:+"$RUN"} ./userdata table profile voicemail.hex | grep -q '<SCSCFName>sip:scscf1.isle:6060</SCSCFName>' || fail 'userdata does not tell of bob'
+${RUN:+"$RUN"} ./daemon --help | grep -q '^usage: daemon ' || fail 'the daemon does not show how it is used'
+# Each name of a header leads to its library's page.
+for library in "${libraries[@]}"; do
+    for name in $(functions_of "$library"); do
+        cmp "$room/prefix/share/man/man3/$name.3" "$room/prefix/share/man/man3/$library.3" >&2 || fail "$name(3) is another page"
+    done
+done
 if [ -e "$room/prefix/bin/answer" ]; then
     says "$room/prefix/bin/tablecheck"
     says "$room/prefix/bin/ndushavire-check" table profile vectors
@@ -182,4 +198,4 @@ quiet install "PREFIX=$room/shared" DESTDIR=
 quiet uninstall "PREFIX=$room/shared" DESTDIR=
 [ "$(cd "$room/shared" && find . | LC_ALL=C sort | tr '\n' ' ')" = '. ./include ' ] ||
     fail "of folders that were there these are left: $(find "$room/shared")"
-echo "installs.sh: $(wc -l <"$room/expected") files installed, $tried trials of installing and uninstalling, an example built from them"
+echo "installs.sh: $(wc -l <"$room/expected") files installed, $tried trials of installing and uninstalling, examples built from them"

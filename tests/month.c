@@ -2,7 +2,7 @@
  * end to end, of which some end in a broken one: the report returns and counts what calls of ndushavire_decide in turn return and answer, and leaves
  * their table, vectors and answer buffer; bytes behind each slice stay. Some lend a table of edition 2, a short answer buffer, an unsound table
  * or vector file, a longer report area, or one that is too short, under which nothing may be written. Peers follow RFC 3588, RFC 6733, or
- * neither, and of some requests the 260 has a second Vendor-Id.
+ * neither, and of some requests the 260 has a second Vendor-Id. The server supports some features, none or any, and some requests ask for some.
  * Exit status: 0 all alike, 1 not so, or too little was tried, 2 wrong use. */
 #include <stdio.h>
 
@@ -24,14 +24,14 @@ static uint64_t below(uint64_t n) {
 typedef struct {
     uint8_t table[TABLE_ROOM + BEHIND], vectors[VECTORS_ROOM + BEHIND], answer[NDUSHAVIRE_ANSWER_ROOM + BEHIND], report[NDUSHAVIRE_REPORT_ROOM + BEHIND];
     size_t table_len, vectors_len, answer_len, report_len;
-    uint32_t peer;
+    uint32_t peer, features;
 } Lent;
 
 static uint8_t *table, *profile, *vectors;
 static size_t table_len, profile_len, vectors_len;
 static uint8_t laid[LAID_MOST];
 static size_t laid_len;
-static uint64_t seen[NDUSHAVIRE_REPORT_WORDS], several, stopped, short_areas, second, told_apart;
+static uint64_t seen[NDUSHAVIRE_REPORT_WORDS], several, stopped, short_areas, second, told_apart, own_lists;
 
 static const uint8_t *some_record(void) { return table + (1 + below(table_len / NDUSHAVIRE_BLOCK - 1)) * NDUSHAVIRE_BLOCK; }
 
@@ -56,6 +56,13 @@ static void ask(Request *r) {
         put_word(r, 624, VENDOR, 0);
         end(r);
     }
+}
+
+/* A bit or two of list 1, mostly, with M or without; now and then more than one AVP of them. */
+static void ask_for_features(Request *r) {
+    do put_features(r, below(2) == 0 ? 0xC0 : 0x80, below(16) == 0 ? 13019 : VENDOR, below(16) == 0 ? 2 : 1, (uint32_t)below(8));
+    while (below(4) == 0);
+    end(r);
 }
 
 /* The first member of 260, its Vendor-Id, a second time. */
@@ -96,6 +103,7 @@ static void lay_some(void) {
     laid_len = 0;
     for (uint64_t left = below(REQUESTS_MOST + 1); left > 0; left--) {
         ask(&r);
+        if (below(4) == 0) ask_for_features(&r);
         spoil(&r);
         lay(r.bytes, r.length);
         if (below(64) == 0) {
@@ -123,16 +131,23 @@ static Lent lend(void) {
     lent.answer_len = NDUSHAVIRE_ANSWER_ROOM - (below(16) == 0 ? 1 + below(NDUSHAVIRE_ANSWER_ROOM) : 0);
     lent.report_len = below(8) == 0 ? below(NDUSHAVIRE_REPORT_ROOM) : NDUSHAVIRE_REPORT_ROOM + below(BEHIND);
     lent.peer = below(16) == 0 ? (uint32_t)below(10000) : below(2) == 0 ? NDUSHAVIRE_RFC_3588 : NDUSHAVIRE_RFC_6733;
+    lent.features = below(4) == 0 ? NDUSHAVIRE_NO_FEATURES : (uint32_t)below(below(2) == 0 ? 8 : (uint64_t)1 << 32);
     if (below(4) == 0) second += ndushavire_moved(ndushavire_forward(lent.table, lent.table_len, profile, profile_len, (uint32_t)below(9)));
     return lent;
 }
 
 static uint32_t four(const uint8_t *at) { return (uint32_t)at[0] << 24 | (uint32_t)at[1] << 16 | (uint32_t)at[2] << 8 | at[3]; }
 
+/* Where an answer has the first AVP of one of two codes; its end if there is none. */
+static size_t find(const uint8_t *answer, size_t length, uint32_t code, uint32_t other) {
+    size_t at = 20;
+    while (at < length && four(answer + at) != code && four(answer + at) != other) at += ((four(answer + at + 4) & 0xFFFFFFu) + 3) / 4 * 4;
+    return at;
+}
+
 /* The column of an answer's result, 268 or 297 with a vendor and a number in it. */
 static uint32_t column_of(const uint8_t *answer, size_t length) {
-    size_t at = 20;
-    while (at < length && four(answer + at) != 268 && four(answer + at) != 297) at += ((four(answer + at + 4) & 0xFFFFFFu) + 3) / 4 * 4;
+    const size_t at = find(answer, length, 268, 297);
     if (at >= length) abort();
     const int base = four(answer + at) == 268;
     const uint32_t result = four(answer + at + (base ? 8 : 28));
@@ -153,13 +168,14 @@ static void decide(Lent *l, const uint8_t *request, size_t length, uint64_t *wor
     static uint8_t before[TABLE_ROOM];
     memcpy(before, l->table, l->table_len);
     const uint64_t word = ndushavire_decide(request, length, l->table, l->table_len, profile, profile_len, l->vectors, l->vectors_len,
-                                            l->answer, l->answer_len, l->peer);
+                                            l->answer, l->answer_len, l->peer, l->features);
     words[NDUSHAVIRE_REPORT_READ]++;
     words[NDUSHAVIRE_REPORT_REFUSED + ndushavire_number(word)]++; /* by 0: answered */
     if (!ndushavire_answered(word)) return;
     const uint32_t command = four(request + 4) & 0xFFFFFFu, row = command >= 300 && command <= 303 ? command - 300 : 4;
     const uint32_t column = column_of(l->answer, ndushavire_value(word)), place = ndushavire_place(word);
     words[NDUSHAVIRE_REPORT_RESULTS + NDUSHAVIRE_REPORT_COLUMNS * row + column]++;
+    own_lists += find(l->answer, ndushavire_value(word), 628, 628) < ndushavire_value(word);
     told_apart += place != 0 && four(request + place) == 260 && ndushavire_report_result(column) == 5009;
     const uint64_t records = altered(before, l->table, l->table_len);
     words[NDUSHAVIRE_REPORT_ALTERED] += records;
@@ -205,22 +221,25 @@ static int alike(void) {
     given = expected = lend();
     const uint64_t wanted = expect(&expected);
     const uint64_t word = ndushavire_report(laid, laid_len, given.table, given.table_len, profile, profile_len, given.vectors, given.vectors_len,
-                                            given.answer, given.answer_len, given.report, given.report_len, given.peer);
+                                            given.answer, given.answer_len, given.report, given.report_len, given.peer, given.features);
     return word == wanted && memcmp(&given, &expected, sizeof given) == 0 &&
            (ndushavire_number(word) == NDUSHAVIRE_OUTPUT_SHORT || adds_up(given.report));
 }
 
 /* Whether the files had something of everything: refusals 1 to 6 and 12, some forty cells of the table, records altered, also several by one
- * request, broken ends, short areas, tables of edition 2, second Vendor-Ids under RFC 6733. */
+ * request, broken ends, short areas, tables of edition 2, second Vendor-Ids under RFC 6733, features that are not supported in every row but the
+ * last, and answers with the server's own. */
 static int enough(void) {
-    int cells = 0, refusals = 0;
+    int cells = 0, refusals = 0, unsupported = 0;
     for (size_t k = NDUSHAVIRE_REPORT_RESULTS; k < NDUSHAVIRE_REPORT_WORDS; k++) cells += seen[k] > 0;
     for (size_t number = 1; number <= NDUSHAVIRE_PEER_UNKNOWN; number++) refusals += seen[NDUSHAVIRE_REPORT_REFUSED + number] > 0;
+    for (size_t row = 0; row < NDUSHAVIRE_REPORT_ROWS; row++)
+        unsupported += seen[NDUSHAVIRE_REPORT_RESULTS + NDUSHAVIRE_REPORT_COLUMNS * (row + 1) - 1] > 0;
     printf("month: %lu requests, %d cells, %d refusals, %lu records altered, several by %lu requests, %lu broken ends, %lu short areas, %lu of edition 2, "
-           "%lu with a second Vendor-Id\n",
+           "%lu with a second Vendor-Id, %d commands with X5011, %lu own lists\n",
            (unsigned long)seen[NDUSHAVIRE_REPORT_READ], cells, refusals, (unsigned long)seen[NDUSHAVIRE_REPORT_ALTERED], (unsigned long)several,
-           (unsigned long)stopped, (unsigned long)short_areas, (unsigned long)second, (unsigned long)told_apart);
-    return cells >= 40 && refusals == 7 && told_apart > 0 && several > 0 && stopped > 0 && short_areas > 0 && second > 0;
+           (unsigned long)stopped, (unsigned long)short_areas, (unsigned long)second, (unsigned long)told_apart, unsupported, (unsigned long)own_lists);
+    return cells >= 40 && refusals == 7 && unsupported == 4 && own_lists > 0 && told_apart > 0 && several > 0 && stopped > 0 && short_areas > 0 && second > 0;
 }
 
 int main(int argc, char **argv) {

@@ -243,7 +243,7 @@ static void decide(Said *said, const Request *r, Bytes table, Bytes profile) {
     uint8_t nothing = 0;
     memset(said, FILL, sizeof *said);
     said->word = ndushavire_decide(r->bytes, r->length, table.bytes, table.length, profile.bytes, profile.length, &nothing, 0, said->answer,
-                                   sizeof said->answer, NDUSHAVIRE_RFC_3588);
+                                   sizeof said->answer, NDUSHAVIRE_RFC_3588, NDUSHAVIRE_NO_FEATURES);
 }
 
 /* Whether one of its set lets a barred line go on. */

@@ -1,5 +1,5 @@
 /*
- * The little box: it stands between a program and the library's entries, and makes each call on a thread whose stack is
+ * The little box: it stands between a program and the libraries' entries, and makes each call on a thread whose stack is
  * 16 KiB, above pages that nobody may touch. A call that needs more is told of, and ends the program with status 3.
  * SPENT in the environment is how many bytes of the stack are used up before the call, to see that this is noticed.
  */
@@ -23,15 +23,17 @@ uint64_t __wrap_ndushavire_check(const uint8_t *table, size_t table_len, const u
 uint64_t __real_ndushavire_check_vectors(const uint8_t *vectors, size_t vectors_len);
 uint64_t __wrap_ndushavire_check_vectors(const uint8_t *vectors, size_t vectors_len);
 uint64_t __real_ndushavire_decide(const uint8_t *request, size_t request_len, uint8_t *table, size_t table_len, const uint8_t *profile,
-                                  size_t profile_len, uint8_t *vectors, size_t vectors_len, uint8_t *answer, size_t answer_len, uint32_t peer);
+                                  size_t profile_len, uint8_t *vectors, size_t vectors_len, uint8_t *answer, size_t answer_len, uint32_t peer,
+                                  uint32_t features);
 uint64_t __wrap_ndushavire_decide(const uint8_t *request, size_t request_len, uint8_t *table, size_t table_len, const uint8_t *profile,
-                                  size_t profile_len, uint8_t *vectors, size_t vectors_len, uint8_t *answer, size_t answer_len, uint32_t peer);
+                                  size_t profile_len, uint8_t *vectors, size_t vectors_len, uint8_t *answer, size_t answer_len, uint32_t peer,
+                                  uint32_t features);
 uint64_t __real_ndushavire_report(const uint8_t *requests, size_t requests_len, uint8_t *table, size_t table_len, const uint8_t *profile,
                                   size_t profile_len, uint8_t *vectors, size_t vectors_len, uint8_t *answer, size_t answer_len, uint8_t *report,
-                                  size_t report_len, uint32_t peer);
+                                  size_t report_len, uint32_t peer, uint32_t features);
 uint64_t __wrap_ndushavire_report(const uint8_t *requests, size_t requests_len, uint8_t *table, size_t table_len, const uint8_t *profile,
                                   size_t profile_len, uint8_t *vectors, size_t vectors_len, uint8_t *answer, size_t answer_len, uint8_t *report,
-                                  size_t report_len, uint32_t peer);
+                                  size_t report_len, uint32_t peer, uint32_t features);
 uint64_t __real_ndushavire_forward(uint8_t *table, size_t table_len, const uint8_t *profile, size_t profile_len, uint32_t issue);
 uint64_t __wrap_ndushavire_forward(uint8_t *table, size_t table_len, const uint8_t *profile, size_t profile_len, uint32_t issue);
 uint64_t __real_ndushavire_back(uint8_t *table, size_t table_len, const uint8_t *profile, size_t profile_len);
@@ -40,26 +42,32 @@ uint64_t __real_ndushavire_take(uint8_t *area, size_t area_len, const uint8_t *f
                                 size_t profile_len);
 uint64_t __wrap_ndushavire_take(uint8_t *area, size_t area_len, const uint8_t *fresh, size_t fresh_len, const uint8_t *profile,
                                 size_t profile_len);
+uint64_t __real_ndushavire_sh_decide(const uint8_t *request, size_t request_len, const uint8_t *table, size_t table_len, const uint8_t *profile,
+                                     size_t profile_len, uint8_t *answer, size_t answer_len, uint32_t peer);
+uint64_t __wrap_ndushavire_sh_decide(const uint8_t *request, size_t request_len, const uint8_t *table, size_t table_len, const uint8_t *profile,
+                                     size_t profile_len, uint8_t *answer, size_t answer_len, uint32_t peer);
 
 /* The call that is made next: what it is lent, in its order, and the word that it returned. */
 static struct {
     const uint8_t *read[6];
     uint8_t *written[6];
     size_t length[6];
-    uint32_t number;
+    uint32_t number[2];
     uint64_t word;
 } lent;
 
 #define READ(s) lent.read[s], lent.length[s]
 #define WRITTEN(s) lent.written[s], lent.length[s]
+#define NUMBERS lent.number[0], lent.number[1]
 
 static void check(void) { lent.word = __real_ndushavire_check(READ(0), READ(1)); }
 static void check_vectors(void) { lent.word = __real_ndushavire_check_vectors(READ(0)); }
-static void decide(void) { lent.word = __real_ndushavire_decide(READ(0), WRITTEN(1), READ(2), WRITTEN(3), WRITTEN(4), lent.number); }
-static void report(void) { lent.word = __real_ndushavire_report(READ(0), WRITTEN(1), READ(2), WRITTEN(3), WRITTEN(4), WRITTEN(5), lent.number); }
-static void forward(void) { lent.word = __real_ndushavire_forward(WRITTEN(0), READ(1), lent.number); }
+static void decide(void) { lent.word = __real_ndushavire_decide(READ(0), WRITTEN(1), READ(2), WRITTEN(3), WRITTEN(4), NUMBERS); }
+static void report(void) { lent.word = __real_ndushavire_report(READ(0), WRITTEN(1), READ(2), WRITTEN(3), WRITTEN(4), WRITTEN(5), NUMBERS); }
+static void forward(void) { lent.word = __real_ndushavire_forward(WRITTEN(0), READ(1), lent.number[0]); }
 static void back(void) { lent.word = __real_ndushavire_back(WRITTEN(0), READ(1)); }
 static void take(void) { lent.word = __real_ndushavire_take(WRITTEN(0), READ(1), READ(2)); }
+static void sh_decide(void) { lent.word = __real_ndushavire_sh_decide(READ(0), READ(1), READ(2), WRITTEN(3), lent.number[0]); }
 
 static void (*call)(void);
 static size_t spent;
@@ -158,20 +166,22 @@ uint64_t __wrap_ndushavire_check_vectors(const uint8_t *vectors, size_t vectors_
 }
 
 uint64_t __wrap_ndushavire_decide(const uint8_t *request, size_t request_len, uint8_t *table, size_t table_len, const uint8_t *profile,
-                                  size_t profile_len, uint8_t *vectors, size_t vectors_len, uint8_t *answer, size_t answer_len, uint32_t peer)
+                                  size_t profile_len, uint8_t *vectors, size_t vectors_len, uint8_t *answer, size_t answer_len, uint32_t peer,
+                                  uint32_t features)
 {
     lend_read(0, request, request_len);
     lend_written(1, table, table_len);
     lend_read(2, profile, profile_len);
     lend_written(3, vectors, vectors_len);
     lend_written(4, answer, answer_len);
-    lent.number = peer;
+    lent.number[0] = peer;
+    lent.number[1] = features;
     return narrow(decide);
 }
 
 uint64_t __wrap_ndushavire_report(const uint8_t *requests, size_t requests_len, uint8_t *table, size_t table_len, const uint8_t *profile,
                                   size_t profile_len, uint8_t *vectors, size_t vectors_len, uint8_t *answer, size_t answer_len, uint8_t *numbers,
-                                  size_t numbers_len, uint32_t peer)
+                                  size_t numbers_len, uint32_t peer, uint32_t features)
 {
     lend_read(0, requests, requests_len);
     lend_written(1, table, table_len);
@@ -179,7 +189,8 @@ uint64_t __wrap_ndushavire_report(const uint8_t *requests, size_t requests_len, 
     lend_written(3, vectors, vectors_len);
     lend_written(4, answer, answer_len);
     lend_written(5, numbers, numbers_len);
-    lent.number = peer;
+    lent.number[0] = peer;
+    lent.number[1] = features;
     return narrow(report);
 }
 
@@ -187,7 +198,7 @@ uint64_t __wrap_ndushavire_forward(uint8_t *table, size_t table_len, const uint8
 {
     lend_written(0, table, table_len);
     lend_read(1, profile, profile_len);
-    lent.number = issue;
+    lent.number[0] = issue;
     return narrow(forward);
 }
 
@@ -205,4 +216,15 @@ uint64_t __wrap_ndushavire_take(uint8_t *area, size_t area_len, const uint8_t *f
     lend_read(1, fresh, fresh_len);
     lend_read(2, profile, profile_len);
     return narrow(take);
+}
+
+uint64_t __wrap_ndushavire_sh_decide(const uint8_t *request, size_t request_len, const uint8_t *table, size_t table_len, const uint8_t *profile,
+                                     size_t profile_len, uint8_t *answer, size_t answer_len, uint32_t peer)
+{
+    lend_read(0, request, request_len);
+    lend_read(1, table, table_len);
+    lend_read(2, profile, profile_len);
+    lend_written(3, answer, answer_len);
+    lent.number[0] = peer;
+    return narrow(sh_decide);
 }

@@ -7,7 +7,7 @@ reference=$1
 driver=("${@:2}")
 tried=0
 # A fault shows once in 1,600 pairs; a run has some 25 calls.
-declare -A count=([tables]=2000 [vectors]=2000 [calls]=2000 [reports]=1000 [moves]=2000 [takes]=2000 [demand3]=8000 [neighbours]=4000 [breaches]=100 [runs]=50)
+declare -A count=([tables]=2000 [vectors]=2000 [calls]=2000 [voicemail]=2000 [reports]=1000 [moves]=2000 [takes]=2000 [demand3]=8000 [demand3-voicemail]=8000 [neighbours]=4000 [neighbours-voicemail]=4000 [breaches]=100 [runs]=50)
 
 ends() { # STATUS KIND DRIVER..
     local status=0
@@ -16,7 +16,7 @@ ends() { # STATUS KIND DRIVER..
     tried=$((tried + 1))
 }
 
-for kind in tables vectors calls reports moves takes demand3 neighbours breaches runs; do
+for kind in tables vectors calls voicemail reports moves takes demand3 demand3-voicemail neighbours neighbours-voicemail breaches runs; do
     ends 0 "$kind" "$reference" outcomes
     ends 1 "$kind" true
 done
@@ -34,10 +34,18 @@ for of in tables:EqualIdentitiesTaken tables:PrefixTaken vectors:XresOf3Taken ve
     breaches:KeepTurned breaches:RoamingBitNotAsked breaches:LastNameOfSubscription \
     calls:UnknownPeerIsOlder calls:PeerAfterBuffer calls:SeveralVendorsTaken calls:SeveralVendorsRefusedByOlder calls:SecondVendorPlaced \
     reports:UnknownPeerRefusesReport reports:ReportOfOlderPeers runs:PeersTurned demand3:SeveralVendorsFirst \
+    calls:FeaturesNotAsked calls:UnmarkedFeaturesAsked calls:UnsupportedAlters calls:OwnListUpToFault calls:OwnListNotIfEmpty calls:OwnListMarked \
+    reports:ReportOfNoFeatures runs:FeaturesNotAsked demand3:UnsupportedBeforeUnknown demand3:OwnListNotBesideFailedAvp \
+    voicemail:PeerNotAskedInSh voicemail:LongerAreaRefusedInSh voicemail:UnsoundReturnsZeroInSh voicemail:CxCommandsTakenInSh voicemail:ApplicationNotAskedInSh \
+    voicemail:IdentityKnownInSh voicemail:FeaturesAskedInSh voicemail:OwnListInSh voicemail:ReferenceOnce voicemail:CxGroupInShAnswers \
+    voicemail:MsisdnBesideIdentityTaken voicemail:IdentityPaddingWhole voicemail:MemberOf700Placed voicemail:ReferenceBeforeIdentity voicemail:BaseForReference \
+    voicemail:BarredNotToldInSh voicemail:ElementsAsAsked voicemail:PendingToldInAnyState voicemail:EmptyNameElement voicemail:ApostropheNotEscaped \
+    voicemail:EscapedTwice voicemail:HighBytesReplaced voicemail:NameOfSubscriptionInSh demand3-voicemail:IdentityKnownInSh \
+    demand3-voicemail:FeaturesUnknownInSh neighbours-voicemail:LastRecordNotFound neighbours-voicemail:IdentityWithoutCase \
     demand3:FirstUnknownPlaced demand3:LastMarkedPlaced runs:UsedSentAgain runs:RewritingFreesVectors; do
     ends 1 "${of%:*}" "$reference" outcomes --fault "${of#*:}"
 done
-for kind in tables vectors; do
+for kind in tables vectors voicemail; do
     OVERSTEP=nowhere ends 0 "$kind" "${driver[@]}"
     for which in before behind inside; do
         OVERSTEP=$which ends 1 "$kind" "${driver[@]}"

@@ -1,6 +1,7 @@
 /*
- * A library that oversteps: it stands between the driver and the two checks, says what each says, and alters a byte that
- * is not its to alter, around or inside of the last slice. OVERSTEP in the environment says which; the driver must tell of it.
+ * Libraries that overstep: they stand between the driver and the two checks and the decision of Sh, say what each says, and alter a
+ * byte that is not theirs to alter, around or inside of the last slice, or of the table that Sh only reads. OVERSTEP in the environment
+ * says which; the driver must tell of it.
  */
 #include <stddef.h>
 #include <stdint.h>
@@ -12,6 +13,10 @@ uint64_t __real_ndushavire_check(const uint8_t *table, size_t table_len, const u
 uint64_t __wrap_ndushavire_check(const uint8_t *table, size_t table_len, const uint8_t *profile, size_t profile_len);
 uint64_t __real_ndushavire_check_vectors(const uint8_t *vectors, size_t vectors_len);
 uint64_t __wrap_ndushavire_check_vectors(const uint8_t *vectors, size_t vectors_len);
+uint64_t __real_ndushavire_sh_decide(const uint8_t *request, size_t request_len, const uint8_t *table, size_t table_len, const uint8_t *profile,
+                                     size_t profile_len, uint8_t *answer, size_t answer_len, uint32_t peer);
+uint64_t __wrap_ndushavire_sh_decide(const uint8_t *request, size_t request_len, const uint8_t *table, size_t table_len, const uint8_t *profile,
+                                     size_t profile_len, uint8_t *answer, size_t answer_len, uint32_t peer);
 
 static void overstep(const uint8_t *slice, size_t length)
 {
@@ -39,5 +44,14 @@ uint64_t __wrap_ndushavire_check_vectors(const uint8_t *vectors, size_t vectors_
     uint64_t word = __real_ndushavire_check_vectors(vectors, vectors_len);
 
     overstep(vectors, vectors_len);
+    return word;
+}
+
+uint64_t __wrap_ndushavire_sh_decide(const uint8_t *request, size_t request_len, const uint8_t *table, size_t table_len, const uint8_t *profile,
+                                     size_t profile_len, uint8_t *answer, size_t answer_len, uint32_t peer)
+{
+    uint64_t word = __real_ndushavire_sh_decide(request, request_len, table, table_len, profile, profile_len, answer, answer_len, peer);
+
+    overstep(table, table_len);
     return word;
 }

@@ -7,7 +7,7 @@
   which module or crate (`crate/Module`: `name`; `name` in `file`; `module::name`), it stands there.
 - The tables of docs/ARCHITECTURE.md name every theorem of the pages of statements, each in the table of its request, and say in every row what is proved.
 - docs/PROVED.md names every must-fail edit, every wrong server and every wrong reporter.
-- Functions, constants and options of the manual pages are those of the header and the examples.
+- Functions, constants and options of the manual pages are those of the headers and the examples.
 - Of docs/LANDINGS.md, which is history, only the newest note is read, and there no sentence that tells what was; but that note, and that of each request,
   tells the check's time."""
 import functools, glob, os, re, sys
@@ -19,6 +19,7 @@ PAGE = re.compile('as theorems about|the statements alone')
 ANY = ''
 STATEMENTS = {
     'demands/Demands': ANY,
+    'demands/Features': '02 [11]',
     'demands/Firm': ANY,
     'demands/Peers': '02 [10]',
     'demands/Place': '02 [2]',
@@ -34,12 +35,14 @@ STATEMENTS = {
     'rewrite/Reaching': '02 [6]',
     'seen_alike/Likeness': '02 [5]',
     'seen_alike/Moved': '02 [5]',
+    'sh_demands/Demands': '02 [12]',
+    'sh_neighbour/Neighbour': '02 [12]',
     'taking/Taking': '02 [8]',
     'vectors_sent/Sending': '02 [1]',
 }
 WITH_STEPS = {'rewrite/Reaching', 'seen_alike/Likeness'}
 # Modules of proofs/, in whatever crate, that docs/PROVED.md cites under "Proved" and that are no such pages: examples, instances, wrong servers, single laws.
-NO_STATEMENTS = {'Areas', 'Challenges', 'Examples', 'Family', 'Members', 'Moves', 'Readings', 'Room', 'Servers', 'Sound', 'TakeOvers', 'Worked'}
+NO_STATEMENTS = {'Areas', 'Challenges', 'Editions', 'Examples', 'Family', 'Features', 'Members', 'Moves', 'Peers', 'Readings', 'Room', 'Servers', 'Sound', 'TakeOvers', 'Worked'}
 # The crates that have wrong servers or wrong reporters, each with a theorem `.. -fails`.
 WRONG = ('report_example', 'sets_example', 'taking_example', 'wrong_servers')
 # What a cell of the column Theorem says where there is no theorem: it is the contract of a function of that row; or there is none, and why.
@@ -55,7 +58,7 @@ OTHERS = set('''
     'PKG_CONFIG_PATH=PREFIX/lib/pkgconfig', "awk '$1 < 10'", 'chmod a-w', 'freeDiameterd -c relay.conf', 'save()', 'save("SAA", "location", "0", "0")',
     'ims.mnc001.mcc001.3gppnetwork.org',
 }
-SAMPLE = re.compile(r'(sip|tel):\S+|<\w+/>|\d+ passed, 0 failed')
+SAMPLE = re.compile(r'(sip|tel):\S+|<[\w-]+/?>|\d+ passed, 0 failed')
 # What is made or installed and is not in the tree.
 MADE = ('live', 'cards', 'service', 'target', 'share', '..')
 
@@ -136,7 +139,7 @@ class Tree:
                 if part == 'proofs':
                     self.statements['%s/%s' % (crate, key[2])] = [name for name, stated in found if stated]
                     self.pages |= {'%s/%s' % (crate, key[2])} if PAGE.search(folded(text.partition('\nuse ')[0].replace('--', ''))) else set()
-        self.make, self.kit, self.header = read('Makefile'), read('KIT-ID').strip(), read('include/ndushavire.h')
+        self.make, self.kit, self.header = read('Makefile'), read('KIT-ID').strip(), read('include/ndushavire.h') + read('include/ndushavire_sh.h')
         self.targets = set(' '.join(re.findall(r'(?m)^\.PHONY: (.*)', self.make)).split())
         self.around = '\n'.join(read(path) for path in glob.glob('examples/*.[ch]') + glob.glob('include/*') + glob.glob('packaging/*'))
         self.edits = {path[len('crates/'):] for path in glob.glob('crates/*/must-fail/*.edit')}

@@ -210,11 +210,11 @@ phones() { # ABOUT NAME LOG: Kamailio asks NAME, whose log says when it is open
     for who in "${pids[@]}"; do finish "$who" || true; done
 }
 
-# ---- straight at the daemon, by RFC 6733; through the relay it is RFC 3588
-daemon_up direct -e 6733
+# ---- straight at the daemon, by RFC 6733; through the relay it is RFC 3588. Features are for whoever asks: Erlang's client does.
+daemon_up direct -e 6733 -f 3
 erlang direct 127.0.0.1
 daemon_down direct
-daemon_up kamailio -e 6733
+daemon_up kamailio -e 6733 -f 3
 phones kamailio hss.isle daemon-kamailio.log
 daemon_down kamailio
 
@@ -228,13 +228,13 @@ keys() {
 }
 if there freeDiameterd openssl; then
     keys >keys.log 2>&1 || fails 'keys for the relay' keys.log
-    daemon_up relay
+    daemon_up relay -f 3
     start relay.log freeDiameterd -c relay.conf
     relay_pid=$last_pid
     if says daemon-relay.log 'peer relay.isle: open' && says relay.log "STATE_OPEN.*hss.isle"; then passes 'relay: freeDiameter connects'; else fails 'relay: freeDiameter connects' relay.log; fi
     erlang relay 192.0.2.2
     daemon_down relay
-    daemon_up kamailio-relay
+    daemon_up kamailio-relay -f 3
     if says daemon-kamailio-relay.log 'peer relay.isle: open'; then passes 'relay: it comes back to a daemon that was started again'; else fails 'relay: it does not come back' relay.log; fi
     phones kamailio-relay relay.isle relay.log
     if ./tls.py >tls.log 2>&1; then

@@ -7,6 +7,7 @@ room=$1 maketable=$(realpath "$2") folder=$(realpath "$3")
 shift 3
 run=("$@")
 top=$(cd "$(dirname "$0")/.." && pwd)
+. "$top/tests/messages.sh"
 rm -rf "$room"
 mkdir -p "$room/other"
 cd "$room"
@@ -56,13 +57,14 @@ for program in tablecheck answer; do
     grep -q '^standard output: ' errors || fail "$program --help, nowhere to write: says '$(cat errors)'"
 done
 
-# In $said the answer to a request that real software sent, or what is said instead, in hex.
-answers() { # REQUEST
-    printf %b "$(sed '/^#/d; s/ //g; s/../\\x&/g' "$top/tests/captured/$1.hex" | tr -d '\n')" >request
+# In $said the answer to a request, or what is said instead, in hex; the request is in hex, too, or one that real software sent.
+answers_to() { # ABOUT DIGITS
+    printf %b "$(sed 's/../\\x&/g' <<<"$2")" >request
     "${run[@]}" "$folder/answer" <request >out 2>errors || fail "answer to $1: status $?"
     said=$(od -An -v -tx1 out | tr -d ' \n')
     tried=$((tried + 1))
 }
+answers() { answers_to "$1" "$(sed '/^#/d; s/ //g' "$top/tests/captured/$1.hex" | tr -d '\n')"; } # REQUEST
 result() { printf '0000010c4000000c%08x' "$1"; } # the Result-Code of this number
 told() { # EXPECTED
     runs tablecheck
@@ -99,6 +101,20 @@ for file in table profile vectors; do cmp "$file" "other/$file" >&2 || fail "$fi
 # Of an AVP at fault too the answer alone is written, as long as it says itself.
 answers mar-16
 [[ $said = *$(result 5004)* ]] && [ ${#said} = $((2 * 0x${said:2:6})) ] || fail "an AVP at fault: answer writes '$said'"
+# It is for peers by RFC 3588, and supports no features: who asks for none, or without M, is told so; who asks for one gets X5011; nobody else is told anything.
+bob=$(public sip:bob@isle) none=$(supported 80 0)
+gets() { # ABOUT RESULT TOLD AVPS
+    local list=${none,,}
+    answers_to "$1" "$(message 302 $cx "$4")"
+    [[ $said = *"$2"* ]] || fail "$1: answer writes '$said'"
+    if [ "$3" = told ]; then [[ $said = *"$list"* && ${said/"$list"/} != *00000274* ]]; else [[ $said != *00000274* ]]; fi || fail "$1: answer is not to be $3: '$said'"
+}
+gets 'no features' "$(result 2001)" untold "$front$bob"
+gets 'several Vendor-Ids' "$(result 2001)" untold "${front/"$application"/"$(avp 260 40 - "$(avp 266 40 - 000028AF)$both")"}$bob"
+gets 'features without M' "$(result 2001)" told "$front$(supported 80 0xFFFFFFFF)$bob"
+gets 'no bit, with M' "$(result 2001)" told "$front$(supported C0 0)$(supported C0 0)$bob"
+gets 'a bit, with M' 0000012a4000000c00001393 told "$front$bob$(supported C0 1)"
+gets 'another list, with M' 0000012a4000000c00001393 told "$front$bob$(supported C0 0 2)"
 
 : >vectors
 told "sound, 9 records"$'\n'"vectors sound, 0 blocks"

@@ -2,12 +2,13 @@
 """quick.py PART..: what a change since BASE (the commit at which this branch left main) can have touched, in minutes, and no more.
 
 The crates that changed and those directly above them are proved, the edits of the changed ones are tried, and those PARTs of make test are run whose
-files changed. A part that needs the library's archive is left out, by name, while the archive would have to be proved first.
+files changed. A part that needs an archive is left out, by name, while an archive would have to be proved first.
 This is not the verdict: a definition that changed can break what stands two storeys above."""
 import fnmatch, functools, os, re, shutil, subprocess, sys
 
 ROOM = 'target/quick'
-ARCHIVE = 'target/staticlib/libndushavire.a'
+LIBRARIES = ['ndushavire', 'ndushavire_sh']
+ARCHIVES = ['target/staticlib/lib%s.a' % name for name in LIBRARIES]
 
 
 class Failed(Exception):
@@ -140,7 +141,7 @@ def touched(parts, files, crates, commit):
     with open(before, 'w') as to:
         to.write(said('git', 'show', commit + ':Makefile'))
     for part in parts:
-        linked = ARCHIVE in recipe(part)
+        linked = any(archive in recipe(part) for archive in ARCHIVES)
         quoted = part == 'pages' and any(file.startswith('crates/') for file in files)
         if tree.files_of(part) & set(files) or 'Makefile' in files and recipe(part) != recipe(part, before) or linked and crates or quoted:
             yield part, linked
@@ -160,15 +161,15 @@ def main():
     if edits:
         run('rt', 'check', *sorted({name for name, _ in edits}))
         try_edits(edits)
-    fresh = subprocess.run(['make', '-q', ARCHIVE], stdout=subprocess.DEVNULL, stderr=subprocess.DEVNULL).returncode == 0
-    inside = proved & below(crates, 'ndushavire')
+    fresh = subprocess.run(['make', '-q', *ARCHIVES], stdout=subprocess.DEVNULL, stderr=subprocess.DEVNULL).returncode == 0
+    inside = proved & set().union(*(below(crates, name) for name in LIBRARIES))
     picked = list(touched(sys.argv[1:], files, inside, commit))
     some = [part for part, linked in picked if fresh or not linked]
     left = [part for part, linked in picked if linked and not fresh]
     if some:
         run('make', '--no-print-directory', 'test', 'MADE=', 'PARTS=' + ' '.join(some))
     if left:
-        print('make quick: left out, since the archive would have to be proved first (make %s does): %s' % (ARCHIVE, ' '.join(left)))
+        print('make quick: left out, since an archive would have to be proved first (make %s does): %s' % (' '.join(ARCHIVES), ' '.join(left)))
 
 
 status = 0

@@ -109,8 +109,8 @@ await() { # FILE PATTERN ABOUT
 mkdir -p "$bin" "$tree/target/c" "$tree/target/c99" "$tree/target/staticlib"
 ln -s "$top/examples" "$top/include" "$top/tests" "$tree/"
 ln -s "$top/target/c/maketable" "$tree/target/c/"
-ln -s "$top/target/staticlib/libndushavire.a" "$tree/target/staticlib/"
-for name in check decide; do wrap "$tree/target/c99/$name" "${RUN-} '$top/target/c99/$name'"; done
+ln -s "$top/target/staticlib/libndushavire"{,_sh}.a "$tree/target/staticlib/"
+for name in check decide userdata; do wrap "$tree/target/c99/$name" "${RUN-} '$top/target/c99/$name'"; done
 compiler="$(command -v "$1") ${*:2}"
 for name in cc gcc; do wrap "$bin/$name" "$compiler"; done
 printf '#!/bin/sh\nexec %s +%%s-%%N\n' "$(command -v date)" >"$bin/date" # no two switches have one date
@@ -150,15 +150,16 @@ next_message() { # of the socket 3, in digits
     printf %s "$head"
     head -c $((0x${head:2} - 4)) <&3 | digits
 }
-asks() {
+question=$tests/captured/icscf-20-lir.hex
+asks() { # [OPTION..]: of the daemon it gets what decide gives with these
     local capabilities expected cea lia
     capabilities=$from$(avp 257 40 - 00017F000001)$(avp 266 40 - 000028AF)$(avp 269 00 - "$(text client)")$application
-    expected=$("$tree/target/c99/decide" "$service/live/table" "$service/live/profile" "$service/cards/vectors" "$tests/captured/icscf-20-lir.hex")
+    expected=$("$tree/target/c99/decide" "$@" "$service/live/table" "$service/live/profile" "$service/cards/vectors" "$question")
     exec 3<>"/dev/tcp/127.0.0.1/$port"
     printf '01%06X80000101000000000000000100000002%s' $((20 + ${#capabilities} / 2)) "$capabilities" | bytes >&3
     cea=$(next_message)
     [[ $cea = 01*0000010c4000000c000007d1* ]] || fail "the daemon does not greet: $cea"
-    sed '/^#/d' "$tests/captured/icscf-20-lir.hex" | bytes >&3
+    sed '/^#/d' "$question" | bytes >&3
     lia=$(next_message)
     exec 3>&-
     [ "$lia" = "$(sed 1d <<<"$expected" | tr -d ' \n' | tr A-F a-f)" ] || fail "the daemon says '$lia' of bob, and decide '$expected'"
@@ -270,6 +271,22 @@ end_daemon
 start=$older
 ran=$((ran + 1))
 
+# ---- features, as ndushavire(7) states them: who asks for them is told so, and who asks for one more is told that too
+stated=$(displays ndushavire.7 Features | sed -n 's/^\$ daemon \(.*\) live cards$/\1/p')
+[[ $stated = '-f 0x'* && $shown = *', features 0x0' ]] || fail 'ndushavire(7) states no features'
+older=$shown
+start=${start/% live cards)/ $stated live cards)} shown=${shown/%0x0/${stated#-f }}
+serve
+asks
+for bits in "${stated#-f }" $((${stated#-f } + 1)); do
+    message 302 $cx "$front$(public sip:bob@isle)$(supported C0 "$bits")" >"$room/asking.hex"
+    question=$room/asking.hex asks $stated
+done
+await "$room/log" "X5011: it asks for features 0x$(printf %x "$bits") of list 1 of vendor 10415, and ${stated#-f } of list 1 are supported" 'ndushavire(7): features'
+end_daemon
+start=${start/ $stated/} shown=$older
+ran=$((ran + 1))
+
 # ---- tables and vectors, as the pages of the programs have it. Each begins with the sample, to which DAMAGE may be done.
 damage=''
 sample() { # FOLDER
@@ -367,6 +384,12 @@ cmp "$room/session/1.said" "$room/session/2.said" >&2 || fail 'ndushavire-report
 message 302 $cx "${front/$application/$(avp 260 40 - "$(avp 266 40 - 000028AF)$both")}$(public sip:bob@isle)" | bytes >>"$here/month-2026-11/requests"
 (cd "$here/month-2026-11" && sh -eu "$room/session/all") || fail 'ndushavire-report(1): a second Vendor-Id stops it'
 ! cmp -s "$room/session/1.said" "$room/session/2.said" || fail 'ndushavire-report(1): a second Vendor-Id does not show'
+# What would be turned away by other features: nothing, until somebody asks for some.
+displays ndushavire-report.1 EXAMPLES | grep '^\$ ndushavire-report -f ' | session 'a month by other features' "$here/month-2026-11"
+[ ! -s "$room/session/1.said" ] && [ ! -s "$room/session/2.said" ] || fail 'ndushavire-report(1): nobody asks for features, and there is an X5011'
+message 302 $cx "$front$(public sip:bob@isle)$(supported C0 3)" | bytes >>"$here/month-2026-11/requests"
+(cd "$here/month-2026-11" && sh -eu "$room/session/all") || fail 'ndushavire-report(1): a Supported-Features stops it'
+grep -q '^X5011 .* 1  feature unsupported$' "$room/session/1.said" && [ ! -s "$room/session/2.said" ] || fail 'ndushavire-report(1): X5011 does not show'
 state "$here" >"$room/before"
 ! (cd "$here" && sh ./month.sh 2026-11 2>/dev/null) || fail 'a month is begun twice'
 rm -rf "$here/month.new"

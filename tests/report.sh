@@ -10,7 +10,7 @@ top=$(cd "$(dirname "$0")/.." && pwd)
 rm -rf "$room"
 mkdir -p "$room"
 table=$room/table profile=$room/profile vectors=$room/vectors requests=$room/requests
-tried=0 peer=() # the option -e, if it is given
+tried=0 peer=() # the options -e and -f, if they are given
 . "$(dirname "$0")/messages.sh"
 
 fail() {
@@ -185,6 +185,47 @@ largest answer: $largest bytes
 the file was read to its end, $(stat -c %s "$requests") bytes
 END
 done
+# What a request gets that asks for features goes by those that are supported: here it asks for bits 0 and 2, with M; without M it is told, and no more.
+asking() { message "$1" $cx "$2$(supported "$3" 5)"; } # COMMAND AVPS FLAGS
+lay "$lir" "$(asking 302 "$front$(public sip:bob@isle)" C0)" "$(asking 303 "$(mar erin@isle sip:erin@isle "$item" 1)" C0)" \
+    "$(asking 301 "$front$server$(assigned 1)$available$(public sip:erin@isle)" C0)" "$(asking 302 "$front$(public sip:bob@isle)" 80)"
+for set in '' 0 1 4294967290 0xFFFFFFFE 5 0x5 0X0000000f 4294967295; do
+    case $set in
+    5 | 0x5 | 0X0000000f | 4294967295)
+        counts='B2001           .      1      3      1      .      5  success' altered=2 largest=420
+        ;;
+    *)
+        counts='B2001           .      .      2      .      .      2  success
+X5011           .      1      1      1      .      3  feature unsupported' altered=0 largest=216
+        ;;
+    esac
+    for edition in '' '-e 6733'; do
+        peer=($edition ${set:+-f "$set"})
+        says 0 "features by '${peer[*]}'" <<END
+              UAR    SAR    LIR    MAR  other    all
+$counts
+answered        .      1      3      1      .      5
+read                                               5
+
+records altered: $altered
+largest answer: $largest bytes
+the file was read to its end, $(stat -c %s "$requests") bytes
+END
+    done
+done
+# The last word on either counts.
+peer=(-f 0 -e 6733 -f 5 -e 3588)
+lay "$doubled" "$(asking 302 "$front$(public sip:bob@isle)" C0)"
+says 0 'options that are given twice' <<END
+              UAR    SAR    LIR    MAR  other    all
+B2001           .      .      2      .      .      2  success
+answered        .      .      2      .      .      2
+read                                               2
+
+records altered: 0
+largest answer: 216 bytes
+the file was read to its end, $(stat -c %s "$requests") bytes
+END
 peer=()
 # Under another policy a server's name is not kept. Columns are as wide as the count needs.
 sed 's/keep=1/keep=0/' "$top/examples/households.txt" >"$room/text"
@@ -291,7 +332,7 @@ for report in "${reports[@]}"; do
     of() { "${run[@]}" "$report" "$@" >"$room/said" 2>"$room/errors"; }
     version=$(sed -n 's/^#define NDUSHAVIRE_VERSION "\(.*\)"$/\1/p' "$top/include/ndushavire.h")
     of --version && [ "$(cat "$room/said")" = "ndushavire-report $version" ] || fail "$report --version says '$(cat "$room/said")'"
-    of --help && grep -q '^usage: ndushavire-report \[-e EDITION\] TABLE' "$room/said" || fail "$report --help says '$(cat "$room/said")'"
+    of --help && grep -q '^usage: ndushavire-report \[-e EDITION\] \[-f FEATURES\] TABLE' "$room/said" || fail "$report --help says '$(cat "$room/said")'"
     # A pipe, and no vectors.
     "${run[@]}" "$report" "$table" "$profile" /dev/null <(cat "$requests") >"$room/said" || fail "$report of a pipe: status $?"
     [ "$(tail -n 1 "$room/said")" = "the file was read to its end, $((${#lir} / 2)) bytes" ] || fail "$report of a pipe says '$(cat "$room/said")'"
@@ -310,6 +351,11 @@ for report in "${reports[@]}"; do
     fails -e 6733 "$table" "$profile" "$vectors"
     fails "$table" "$profile" "$vectors" "$requests" -e 6733
     for edition in '' 0 1 3589 6733x 06733 6733=gw; do fails -e "$edition" "$table" "$profile" "$vectors" "$requests"; done
+    fails -f "$table" "$profile" "$vectors" "$requests"
+    fails -f 1 "$table" "$profile" "$vectors"
+    fails "$table" "$profile" "$vectors" "$requests" -f 1
+    fails -e 6733 -f "$table" "$profile" "$vectors" "$requests"
+    for set in '' x 0x 1x 01 -1 4294967296 0x100000000 1,2; do fails -f "$set" "$table" "$profile" "$vectors" "$requests"; done
     fails "$room/none" "$profile" "$vectors" "$requests"
     fails "$table" "$room/none" "$vectors" "$requests"
     fails "$table" "$profile" "$room/none" "$requests"

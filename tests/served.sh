@@ -1,8 +1,8 @@
 #!/usr/bin/env bash
-# served.sh ROOM MAKETABLE ARCHIVE CC..: builds the daemon of the examples and gives it to a client of its own (client.py). Then it puts one
+# served.sh ROOM MAKETABLE ARCHIVES CC..: builds the daemon of the examples and gives it to a client of its own (client.py). Then it puts one
 # fault after the other into the daemon, and sees that the client notices each. RUN, if set, is the emulator.
 set -euo pipefail
-room=$1 maketable=$2 archive=$3
+room=$1 maketable=$2 archives=($3)
 shift 3
 compiler=("$@")
 run=(${RUN:+"$RUN"})
@@ -22,18 +22,20 @@ command -v python3 >/dev/null || fail 'python3 is missing (Debian: python3)'
 cp -r "$top/examples" "$room/source"
 
 # Three trials are about peers that wait in vain, and have a daemon with little patience; the others may run on a machine that is slow.
-hasty='greeting slow ending' others='cut many garbage replaced declined two_users laid_over sizes taken taken_over_kills put_in timed_out editions last_good twice full kills'
+hasty='greeting slow ending' others='cut many garbage replaced declined two_users laid_over sizes taken taken_over_kills put_in timed_out editions features voicemail last_good twice full kills'
+include=$top/include
 build() { # SOURCES PROGRAM TRIAL [OPTION]
     local flags=(-DLOOK_AGAIN=1 "${@:4}")
     [[ " $hasty " != *" $3 "* ]] || flags+=(-DQUIET=3 -DGREETING=1 -DFAREWELL=1)
-    "${compiler[@]}" -std=c99 -O2 -Wall -Wextra -pedantic -Werror -Wno-unused -I"$top/include" "${flags[@]}" -include "$tests/slow-disk.h" \
-        -o "$2" "$1/daemon.c" "$archive"
+    "${compiler[@]}" -std=c99 -O2 -Wall -Wextra -pedantic -Werror -Wno-unused -I"$include" "${flags[@]}" -include "$tests/slow-disk.h" \
+        -o "$2" "$1/daemon.c" "${archives[@]}"
 }
 build "$room/source" "$room/hasty" slow
 build "$room/source" "$room/daemon" cut
+program=$room/daemon
 ends() { # STATUS ARGUMENT..
     local status=0
-    "${run[@]}" "$room/daemon" "${@:2}" >"$room/usage" 2>"$room/complaint" || status=$?
+    "${run[@]}" "$program" "${@:2}" >"$room/usage" 2>"$room/complaint" || status=$?
     [ "$status" = "$1" ] || fail "with the arguments '${*:2}' it ends with status $status"
 }
 ends 0 --help
@@ -49,6 +51,18 @@ for edition in '' 6734 06733 6733x 6733= =gw.mainland.example 3588,6733; do
 done
 ends 2 $(printf -- '-e 6733=gw%s ' $(seq 65)) live cards
 ends 1 $(printf -- '-e 6733=gw%s ' $(seq 64)) "$room/none" "$room/none"
+for set in '' x 0x 1x 01 -1 ' 1' 4294967296 0x100000000 3=gw.mainland.example; do
+    ends 2 -f "$set" live cards
+    grep -q -e '-f: the bits of list 1' "$room/complaint" || fail "features '$set' are not complained of"
+done
+ends 1 -f 4294967295 "$room/none" "$room/none"
+# By another version's header it does not start.
+mkdir "$room/other"
+sed 's/\(NDUSHAVIRE_VERSION_NUMBER\) \([0-9][0-9]*\) /\1 (\2 - 100) /' "$top/include/ndushavire.h" >"$room/other/ndushavire.h"
+cp "$top/include/ndushavire_sh.h" "$room/other/"
+include=$room/other build "$room/source" "$room/other/daemon" cut
+program=$room/other/daemon ends 1 "$room/none" "$room/none"
+grep -q '^daemon: the library: it is of another version than the header' "$room/complaint" || fail "by another header it says '$(cat "$room/complaint")'"
 kills=40
 [ ${#run[@]} = 0 ] || kills=15 # an emulator takes long to start
 client() { # TRIALS PROGRAM
@@ -88,15 +102,37 @@ with() { # ABOUT TRIAL FILE SED..
     started=$((started + 1))
 }
 with 'files that are damaged in memory and not read again' spoilt daemon.c -e "$spoil" -e 's/^    read_again(number);//'
-with 'an edition that is not the peer'"'"'s' editions daemon.c 's/sizeof answer, peer->edition)/sizeof answer, NDUSHAVIRE_RFC_3588)/'
+with 'an edition that is not the peer'"'"'s' editions daemon.c 's/sizeof answer, peer->edition,/sizeof answer, NDUSHAVIRE_RFC_3588,/'
 with 'an edition of one peer, taken for all' editions peers.h 's/^        else if (strlen(host) == length .*) of_peer = /        else of_peer = /'
 with 'an edition of all, taken before that of one peer' editions peers.h 's/return of_peer != 0 ? of_peer : of_all;/return of_all != NDUSHAVIRE_RFC_3588 ? of_all : of_peer != 0 ? of_peer : of_all;/'
 with 'a host by the beginning of its name' editions peers.h 's/strlen(host) == length \&\& strncasecmp(host, (const char \*)name, length)/strncasecmp(host, (const char *)name, length)/'
 with 'a host in another case, taken for another' editions peers.h 's/strncasecmp/strncmp/'
 with 'the first word on a peer, and not the last' editions peers.h 's/ \&\& strncasecmp(/ \&\& of_peer == 0&/'
 with 'a fault by one edition, remembered for another' editions daemon.c 's/ \&\& ndushavire_place(word) == 0) remember_for_twice/) remember_for_twice/'
+with 'what was done by one edition, decided again by another' editions daemon.c \
+    's/may_alter(request, length) ? recall(/may_alter(request, length) \&\& peer->edition == NDUSHAVIRE_RFC_3588 ? recall(/'
 with 'an edition that the log does not say' editions daemon.c 's/open, RFC %lu", peer->name, (unsigned long)peer->edition)/open", peer->name)/'
 with 'a peer that follows RFC 6733 unless something is stated' editions peers.h 's/uint32_t of_all = NDUSHAVIRE_RFC_3588/uint32_t of_all = NDUSHAVIRE_RFC_6733/'
+with 'features that are supported, and are not stated' features daemon.c 's/peer->edition, features)/peer->edition, NDUSHAVIRE_NO_FEATURES)/'
+with 'features that are supported unless it is told' features daemon.c 's/^static uint32_t features = NDUSHAVIRE_NO_FEATURES;/static uint32_t features = 1;/'
+with 'features by the first word, and not the last' features daemon.c \
+    's/^    const int right = features_of(digits, &features);/    uint32_t later;\n    const int right = features_of(digits, features == 0 ? \&features : \&later);/'
+with 'features by decimal digits alone' features stated.h 's/(sixteen ? 16 : 10)/10/'
+with 'features without the digits A to F' features stated.h 's/(digit < 16 ? digit : digit - 6)/digit % 16/'
+with 'features up to 2^31' features stated.h 's/number > UINT32_MAX/number > INT32_MAX/'
+with 'features that the log does not say' features daemon.c 's/, features 0x%lx", address, \(.*\), (unsigned long)features);/", address, \1);/'
+with 'an X5011 of which the log does not say why' features daemon.c 's/^    log_unsupported(peer, request, length, answer_len);//'
+with 'an X5011 of which the log blames what has no M' features daemon.c 's/ \&\& (avp\[4\] & MARKED_OF_VENDOR) == MARKED_OF_VENDOR//'
+with 'an X5011 of which the log does not know another list' features daemon.c 's/ || number_in(avp, FEATURE_LIST_ID) != 1//'
+with 'an X5011 of which the log does not know another vendor' features daemon.c 's/(number_in(avp, VENDOR_ID) != VENDOR_3GPP || /(/'
+with 'an X5011 of which the log has the first bits of all' features daemon.c 's/ \&\& !asks_too_much(avp); left -= span/ \&\& four_bytes(avp) != SUPPORTED_FEATURES; left -= span/'
+with 'a User-Data-Request that goes to the Cx server' voicemail daemon.c 's/^    if (is_sh(request, length))$/    if (0)/'
+with 'a request of Sh by its command' voicemail daemon.c 's/ndushavire_sh_meant(request); }/command_of(request) == NDUSHAVIRE_SH_USER_DATA; }/'
+with 'a CEA without Sh' voicemail base.h 's/^    put_application(answer, SH);//'
+with 'a CEA without Cx' voicemail base.h 's/^    put_application(answer, CX);//'
+with 'a peer of Sh alone that is turned away' voicemail base.h 's/ || application == SH || / || /'
+with 'an edition that is not the voicemail box'"'"'s' voicemail daemon.c 's/sizeof answer, peer->edition);/sizeof answer, NDUSHAVIRE_RFC_3588);/'
+with 'a MAR of Sh, logged as one of Cx' voicemail daemon.c 's/ || is_sh(request, request_len) || / || /'
 with 'an answer that is sent before its work is stored' kills daemon.c \
     -e 's/^    if (may_alter(request, length) \&\& succeeded.*/    send_later(peer, answer, answer_len);\n    write_some(peer);\n&/' \
     -e '/remember_for_twice(outcome/,/^}/s/^    send_later.*//' -e 's/^static void hang_up(Peer/static void write_some(Peer *peer);\n&/'

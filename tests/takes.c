@@ -113,7 +113,7 @@ static uint64_t take(Bytes area, Bytes fresh, Bytes profile) {
 static void report_over(uint8_t *numbers, const Request *r, Bytes area, Bytes profile) {
     static uint8_t answer[NDUSHAVIRE_ANSWER_ROOM], none;
     if (ndushavire_report(r->bytes, r->length, area.bytes, area.length, profile.bytes, profile.length, &none, 0, answer, sizeof answer, numbers,
-                          NDUSHAVIRE_REPORT_ROOM, NDUSHAVIRE_RFC_3588) != 0)
+                          NDUSHAVIRE_REPORT_ROOM, NDUSHAVIRE_RFC_3588, NDUSHAVIRE_NO_FEATURES) != 0)
         fail("a report is refused");
 }
 

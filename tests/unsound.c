@@ -92,7 +92,7 @@ static void make_requests(void)
 static uint64_t decide(const Request *request, size_t table_length, size_t length)
 {
     return ndushavire_decide(request->bytes, request->length, table, table_length, table, 0, vectors, length, answer, sizeof answer,
-                             NDUSHAVIRE_RFC_3588);
+                             NDUSHAVIRE_RFC_3588, NDUSHAVIRE_NO_FEATURES);
 }
 
 static void keep(void)

@@ -19,6 +19,8 @@ linked=$("$@") || fail "the library that was linked says '$linked', and the head
 said 'the library that was linked' "$number" "$linked"
 said crates/ndushavire/specs/Version.antt "${version//./ }" "$(sed -n 's/^version = numberOf //p' crates/ndushavire/specs/Version.antt)"
 said crates/arguments/src/lib.rt "$version" "$(sed -n 's/^ *say(b" \([0-9.]*\)\\n");$/\1/p' crates/arguments/src/lib.rt)"
-said packaging/ndushavire.pc.in @VERSION@ "$(sed -n 's/^Version: //p' packaging/ndushavire.pc.in)" # the header's, by packaging/install.sh
+for file in packaging/ndushavire{,_sh}.pc.in; do said "$file" @VERSION@ "$(sed -n 's/^Version: //p' "$file")"; done # the header's, by packaging/install.sh
+said 'packaging/ndushavire_sh.pc.in of the other' 'ndushavire = @VERSION@' "$(sed -n 's/^Requires: //p' packaging/ndushavire_sh.pc.in)"
+! grep -q '#define NDUSHAVIRE_.*VERSION' include/ndushavire_sh.h || fail 'the second header has a version of its own'
 said README.md "$version" "$(grep -o -E '\*\* This is [0-9]+\.[0-9]+\.[0-9]+' README.md | sed 's/.* //')"
 echo "version.sh: $version, $number, everywhere"

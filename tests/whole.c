@@ -17,10 +17,12 @@
 
 #define LAID_OVER look_for_table /* what notices a table that was laid over its own */
 #define MORE_LOGGED "daemon: peer 6: no challenge for user1@isle: B5004\n"
+#define UNSUPPORTED_LOGGED "daemon: peer 6: X5011: it asks for features 0x2 of list 1 of vendor 10415, and 0x5 of list 1 are supported\n"
 
 int send_all(int peer, const uint8_t *bytes, size_t length);
 int refused(int peer, uint64_t word);
 uint32_t edition_stated(int peer);
+uint32_t features_stated(void);
 
 static void start(const char *folder, const char *cards) { take_all(folder, cards); }
 
@@ -29,6 +31,7 @@ static int serve(int peer, const uint8_t *request, size_t length) {
     one.out = 0;
     snprintf(one.name, sizeof one.name, "%d", peer);
     one.edition = edition_stated(peer);
+    features = features_stated();
     serve_new(&one, request, length);
     return one.out == 0 || send_all(peer, one.to_write, one.out);
 }

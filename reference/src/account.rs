@@ -6,7 +6,7 @@ use crate::gen::{Made, Stream};
 use crate::report::{name, Numbers, LEAST_REPORT};
 use crate::show::hex;
 
-/// A longer file of requests is not shown; `gen` writes it.
+/// A longer file of requests, or list, is not shown; `gen` writes it.
 const MOST_SHOWN: usize = 20_000;
 
 /// Lines of 32 bytes.
@@ -22,9 +22,13 @@ pub fn word(entry: Entry, outcome: &Outcome) -> String {
         (Entry::Check, 5) => format!("block {value} is bad{place}"),
         (Entry::CheckVectors, 0) => format!("sound, {value} vectors{place}"),
         (Entry::CheckVectors, 6) => format!("vector block {value} is bad{place}"),
-        (Entry::Decide, 0) => format!("answered with {value} bytes{place}"),
+        (Entry::Decide | Entry::ShDecide, 0) => format!("answered with {value} bytes{place}"),
         (Entry::Forward | Entry::Back, 0) => format!("moved, {value} records{place}"),
         (Entry::Take, 0) => format!("taken over, {value} records{place}"),
+        (Entry::Export, 0) => format!("exported to {value} bytes{place}"),
+        (Entry::Export, 13) => format!("block {value} cannot be listed{place}"),
+        (Entry::Import, 0) => format!("imported to {value} bytes{place}"),
+        (Entry::Import, 14) => format!("no export has line {value}{place}"),
         (Entry::Report, 0) => format!("reported to the file's end, value {value}{place}"),
         (Entry::Report, 7) => format!("reported up to a broken piece, value {value}{place}"),
         (_, number) => format!("refused {number}, value {value}{place}"),
@@ -43,9 +47,11 @@ pub fn slices(made: &Made) {
     println!("  made by: {}", made.notes.join(", "));
     for (lent, held) in case.entry.lent().iter().zip(&case.slices) {
         println!("  {} of {} bytes", lent.slice().name(), held.length());
-        let shown = [Slice::Request, Slice::Requests].contains(&lent.slice()) && held.length() <= MOST_SHOWN;
-        if shown {
-            println!("{}", lines(&case.held(lent.slice())));
+        let bytes = case.held(lent.slice());
+        match lent.slice() {
+            Slice::Request | Slice::Requests if bytes.len() <= MOST_SHOWN => println!("{}", lines(&bytes)),
+            Slice::List if !lent.written() && bytes.len() <= MOST_SHOWN => println!("{}", bytes.escape_ascii()),
+            _ => {}
         }
     }
     for number in &case.numbers {
@@ -125,7 +131,8 @@ fn changed(name: &str, before: &[u8], own: &Change, given: &Change) {
 
 pub fn answer(whose: &str, case: &Case, outcome: &Outcome) {
     let (number, _, value) = outcome.parts();
-    if let (Entry::Decide, 0, Some(buffer)) = (case.entry, number, case.after(outcome, Slice::Buffer)) {
+    let decides = [Entry::Decide, Entry::ShDecide].contains(&case.entry);
+    if let (true, 0, Some(buffer)) = (decides, number, case.after(outcome, Slice::Buffer)) {
         println!("  the answer of {whose}:\n{}", lines(&buffer[..(value as usize).min(buffer.len())]));
     }
 }

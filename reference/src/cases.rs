@@ -3,10 +3,13 @@
 use std::borrow::Cow;
 
 use self::Lent::{Read, Written};
-use self::Slice::{Area, Buffer, Fresh, Profile, Report, Request, Requests, Table, Vectors};
+use self::Slice::{Area, Buffer, Fresh, Header, List, Profile, Report, Request, Requests, Table, Vectors};
+use crate::kinds::Dialect;
+use crate::list;
 use crate::moves;
 use crate::report;
 use crate::serve;
+use crate::sh;
 use crate::slip::Slip;
 use crate::stated::Stated;
 use crate::table;
@@ -27,6 +30,12 @@ pub enum Entry {
     Back = 6,
     /// Of a new table, into the working area.
     Take = 7,
+    /// Of a table, as a list.
+    Export = 8,
+    /// Of a list, as a table.
+    Import = 9,
+    /// The decision of Sh.
+    ShDecide = 10,
 }
 
 #[derive(Clone, Copy, PartialEq, Eq, Debug)]
@@ -43,6 +52,9 @@ pub enum Slice {
     Vectors,
     Buffer,
     Report,
+    List,
+    /// A table's header block, without its records.
+    Header,
 }
 
 /// A slice that an entry takes: to read it, or to write to it too.
@@ -53,18 +65,21 @@ pub enum Lent {
 }
 
 /// Each entry, the slices that it takes, and how many numbers come behind them.
-const ENTRIES: [(Entry, &[Lent], usize); 7] = [
+const ENTRIES: [(Entry, &[Lent], usize); 10] = [
     (Entry::Check, &[Read(Table), Read(Profile)], 0),
-    (Entry::Decide, &[Read(Request), Written(Table), Read(Profile), Written(Vectors), Written(Buffer)], 1),
+    (Entry::Decide, &[Read(Request), Written(Table), Read(Profile), Written(Vectors), Written(Buffer)], 2),
     (Entry::CheckVectors, &[Read(Vectors)], 0),
     (
         Entry::Report,
         &[Read(Requests), Written(Table), Read(Profile), Written(Vectors), Written(Buffer), Written(Report)],
-        1,
+        2,
     ),
     (Entry::Forward, &[Written(Table), Read(Profile)], 1),
     (Entry::Back, &[Written(Table), Read(Profile)], 0),
     (Entry::Take, &[Written(Area), Read(Fresh), Read(Profile)], 0),
+    (Entry::Export, &[Read(Table), Read(Profile), Written(List)], 0),
+    (Entry::Import, &[Read(List), Read(Header), Read(Profile), Written(Table)], 0),
+    (Entry::ShDecide, &[Read(Request), Read(Table), Read(Profile), Written(Buffer)], 1),
 ];
 
 /// What a slice holds before the call.
@@ -142,6 +157,14 @@ impl Entry {
     /// The slices that it takes.
     pub fn lent(self) -> &'static [Lent] {
         self.row().0
+    }
+
+    /// The interface of a decision.
+    pub fn dialect(self) -> Dialect {
+        match self {
+            Entry::ShDecide => Dialect::Sh,
+            _ => Dialect::Cx,
+        }
     }
 
     /// How many numbers it takes.
@@ -228,6 +251,13 @@ impl Case {
         Case { entry: Entry::Decide, fill, slices, numbers: stated.numbers() }
     }
 
+    /// A decision of Sh, with so many bytes for the answer.
+    pub fn sh_decide(fill: u8, request: Vec<u8>, table: Vec<u8>, profile: Vec<u8>, buffer: usize, peer: u32) -> Case {
+        let mut slices: Vec<Held> = [request, table, profile].into_iter().map(Held::Bytes).collect();
+        slices.push(Held::Noise(buffer));
+        Case { entry: Entry::ShDecide, fill, slices, numbers: vec![peer] }
+    }
+
     pub fn check_vectors(fill: u8, vectors: Vec<u8>) -> Case {
         Case { entry: Entry::CheckVectors, fill, slices: vec![Held::Bytes(vectors)], numbers: vec![] }
     }
@@ -260,7 +290,19 @@ impl Case {
         Case { entry: Entry::Take, fill, slices, numbers: vec![] }
     }
 
-    /// What a decision or a report is told of its peer.
+    /// An export into so many bytes.
+    pub fn export(fill: u8, table: Vec<u8>, profile: Vec<u8>, list: usize) -> Case {
+        let slices = vec![Held::Bytes(table), Held::Bytes(profile), Held::Noise(list)];
+        Case { entry: Entry::Export, fill, slices, numbers: vec![] }
+    }
+
+    /// An import into so many bytes.
+    pub fn import(fill: u8, list: Vec<u8>, header: Vec<u8>, profile: Vec<u8>, table: usize) -> Case {
+        let slices = vec![Held::Bytes(list), Held::Bytes(header), Held::Bytes(profile), Held::Noise(table)];
+        Case { entry: Entry::Import, fill, slices, numbers: vec![] }
+    }
+
+    /// What a decision or a report is told of its peer and of the server.
     pub fn stated(&self) -> Stated {
         Stated::of(&self.numbers)
     }
@@ -355,6 +397,17 @@ impl Case {
             (Entry::Take, [area, fresh, profile]) => {
                 let found = take::take(area.to_mut(), fresh, profile.len(), slip);
                 (serve::move_word(found), Why::TakenOver(found))
+            }
+            (Entry::Export, [table, profile, list]) => {
+                let found = list::export(table, profile.len(), list.to_mut(), slip);
+                (serve::move_word(found), Why::Listed(found))
+            }
+            (Entry::Import, [list, header, profile, table]) => {
+                let found = list::import(list, header, profile.len(), table.to_mut(), slip);
+                (serve::move_word(found), Why::Listed(found))
+            }
+            (Entry::ShDecide, [request, table, profile, buffer]) => {
+                sh::user_data(request, table, profile, buffer.to_mut(), self.stated(), slip)
             }
             _ => unreachable!("a case has the slices that its entry takes"),
         };

@@ -118,7 +118,7 @@ impl Figures {
 
     fn print(&self, began: Instant) {
         println!(
-            "{} cases agree: {} sound, answered, reported, moved or taken over ({} with a table rewritten, {} with vectors sent), refused {:?}; \
+            "{} cases agree: {} sound, answered, reported, moved, taken over or listed ({} with a table rewritten, {} with vectors sent), refused {:?}; \
              {} MiB of files; {:.1} s",
             self.cases,
             self.done,

@@ -12,7 +12,6 @@ use crate::block::BLOCK;
 use crate::cases::{Case, Change, Entry, Outcome, Slice};
 use crate::compare::Fed;
 use crate::gen::{self, Stream};
-use crate::kinds::Kind;
 use crate::message::{padded, Message, Received, HEADER, M};
 use crate::read::{read_header, walk};
 use crate::refuse::MOST_REQUEST;
@@ -36,6 +35,7 @@ enum Relation {
 /// What is expected of a pair of outcomes.
 #[derive(Clone)]
 struct Expected {
+    entry: Entry,
     relation: Relation,
     moves: Moves,
 }
@@ -66,11 +66,11 @@ struct Inserted {
     bytes: Vec<u8>,
 }
 
-/// True if the driver's outcomes of all pairs relate as they should.
-pub fn compare(seed: u64, numbers: Range<u64>, command: &[String]) -> io::Result<bool> {
+/// True if the driver's outcomes of all pairs, made from the cases of this stream, relate as they should.
+pub fn compare(stream: Stream, seed: u64, numbers: Range<u64>, command: &[String]) -> io::Result<bool> {
     let began = Instant::now();
     let mut fed = Fed::start(command, numbers.clone(), move |number| {
-        let pair = pair(seed, number);
+        let pair = pair(stream, seed, number);
         (vec![pair.without, pair.with], pair.expected)
     })?;
     let (mut unmarked, mut before, mut marked) = (0u64, 0u64, 0u64);
@@ -89,9 +89,10 @@ pub fn compare(seed: u64, numbers: Range<u64>, command: &[String]) -> io::Result
                 return Ok(false);
             }
         };
-        if let Err(what) = relates(seed, number, &expected, &without, &with) {
+        let made = || pair(stream, seed, number);
+        if let Err(what) = relates(made, &expected, &without, &with) {
             println!("pair {number} of seed {seed}: {what}");
-            tell(&pair(seed, number), &without, &with);
+            tell(&made(), &without, &with);
             fed.abandon();
             return Ok(false);
         }
@@ -101,8 +102,8 @@ pub fn compare(seed: u64, numbers: Range<u64>, command: &[String]) -> io::Result
             Relation::Marked(..) => marked += 1,
         }
         moved += (with.parts().1 != without.parts().1) as u64;
-        rewritten += Entry::Decide.changed(&without, Slice::Table) as u64;
-        sent += Entry::Decide.changed(&without, Slice::Vectors) as u64;
+        rewritten += expected.entry.changed(&without, Slice::Table) as u64;
+        sent += expected.entry.changed(&without, Slice::Vectors) as u64;
     }
     if !fed.end()? || unmarked + before + marked != count {
         return Ok(false);
@@ -115,7 +116,8 @@ pub fn compare(seed: u64, numbers: Range<u64>, command: &[String]) -> io::Result
     Ok(true)
 }
 
-fn relates(seed: u64, number: u64, expected: &Expected, without: &Outcome, with: &Outcome) -> Result<(), String> {
+fn relates(pair: impl Fn() -> Pair, expected: &Expected, without: &Outcome, with: &Outcome) -> Result<(), String> {
+    let entry = expected.entry;
     if without.altered != 0 || with.altered != 0 {
         return Err("what was lent to be read was altered".to_string());
     }
@@ -132,16 +134,16 @@ fn relates(seed: u64, number: u64, expected: &Expected, without: &Outcome, with:
         }
         Relation::Marked(expected, place) => {
             for slice in [Slice::Table, Slice::Vectors] {
-                if Entry::Decide.changed(with, slice) {
+                if entry.changed(with, slice) {
                     return Err(format!("the {} was changed", slice.name()));
                 }
             }
             placed((*place as u64) << 32 | expected.len() as u64, with.word)?;
-            let case = pair(seed, number).with;
+            let case = pair().with;
             let before = case.held(Slice::Buffer);
             let mut after = before.to_vec();
             after[..expected.len()].copy_from_slice(expected);
-            if Entry::Decide.change(with, Slice::Buffer) != Some(&Change::between(&before, &after)) {
+            if entry.change(with, Slice::Buffer) != Some(&Change::between(&before, &after)) {
                 return Err("the answer is not the one of B5001".to_string());
             }
         }
@@ -168,10 +170,10 @@ fn tell(pair: &Pair, without: &Outcome, with: &Outcome) {
 }
 
 /// Pair `number`: an answered request, without and with unknown kinds put in before its first length fault.
-fn pair(seed: u64, number: u64) -> Pair {
+fn pair(stream: Stream, seed: u64, number: u64) -> Pair {
     let mut rng = Rng::for_case(seed ^ 0x3333, number);
     loop {
-        let case = gen::make(Stream::Calls, rng.draw(), 0).case;
+        let case = gen::make(stream, rng.draw(), 0).case;
         if let Some(pair) = sound_starts(&case).and_then(|starts| put_in(&mut rng, case, &starts)) {
             return pair;
         }
@@ -201,7 +203,7 @@ fn put_in(rng: &mut Rng, without: Case, starts: &[usize]) -> Option<Pair> {
     let room = MOST_REQUEST - bare.len();
     let many = if rng.once_in(10) { 40 } else { 4 };
     for _ in 0..rng.between(1, many) {
-        let mut piece = gen::twists::unknown(rng);
+        let mut piece = gen::twists::unknown(rng, without.entry.dialect());
         if rng.once_in(60) {
             let length = rng.below(room + 1);
             piece.data = rng.bytes(length);
@@ -238,7 +240,8 @@ fn put_in(rng: &mut Rng, without: Case, starts: &[usize]) -> Option<Pair> {
     with.put(Slice::Request, request);
     let relation = relation(&with, first_marked);
     let moves = Moves(inserted.iter().map(|avp| (starts[avp.place], avp.bytes.len())).collect());
-    Some(Pair { without, with, expected: Expected { relation, moves } })
+    let entry = with.entry;
+    Some(Pair { without, with, expected: Expected { entry, relation, moves } })
 }
 
 fn relation(with: &Case, first_marked: Option<usize>) -> Relation {
@@ -249,14 +252,17 @@ fn relation(with: &Case, first_marked: Option<usize>) -> Relation {
     let request = with.held(Slice::Request);
     let message = Message(&request);
     let before = Received { at: HEADER, bytes: &request[HEADER..at] };
-    if read_header(message, Slip::NONE).and_then(|command| walk(before, command, with.stated(), Slip::NONE)).is_err() {
+    let dialect = with.entry.dialect();
+    let command = read_header(message, dialect, Slip::NONE);
+    if command.and_then(|command| walk(before, command, with.stated(), Slip::NONE)).is_err() {
         return Relation::FaultBefore;
     }
     let avp = Received { at, bytes: &request[at..] }.sound(Slip::NONE)[0];
-    debug_assert!(Kind::of(avp.vendor, avp.code).is_none());
+    debug_assert!(dialect.kind(avp.vendor, avp.code).is_none());
     let (failed, why) = (Failed::Whole(avp), Why::Rule('d', ""));
     let finding = Finding { result: 5001, failed, place: at, why };
     let table = with.held(Slice::Table);
     let header = Table(&table[..BLOCK]).header();
-    Relation::Marked(answer(message, header, &Verdict::of_finding(finding), with.stated(), Slip::NONE), at)
+    let verdict = Verdict::of_finding(finding);
+    Relation::Marked(answer(message, dialect, header, &verdict, with.stated(), Slip::NONE), at)
 }

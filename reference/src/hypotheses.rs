@@ -3,9 +3,9 @@
 use std::collections::BTreeSet;
 
 use crate::cases::{Case, Slice};
-use crate::kinds::Command;
+use crate::kinds::{Command, Dialect};
 use crate::message::Message;
-use crate::read::read;
+use crate::read::fault_of;
 use crate::slip::Slip;
 use crate::stated::Stated;
 use crate::table::check;
@@ -16,7 +16,7 @@ pub enum Hypothesis {
     Request,
     /// It is no MAR.
     Command,
-    /// The same is stated of the peer.
+    /// The same is stated of the peer and of the server.
     Stated,
     /// Both tables are sound.
     Sound,
@@ -128,7 +128,10 @@ pub fn broken(calls: &[Case; 2]) -> BTreeSet<Hypothesis> {
             broken.insert(Hypothesis::Profile);
         }
     };
-    let (publics, mut privates) = asked(&request, [one.stated(), other.stated()]);
+    let (publics, mut privates) = match one.entry.dialect() {
+        Dialect::Cx => asked(&request, [one.stated(), other.stated()]),
+        Dialect::Sh => (asked_of_sh(&request, [one.stated(), other.stated()]), BTreeSet::new()),
+    };
     for public in &publics {
         let found = [sides[0].of_public(public), sides[1].of_public(public)];
         privates.extend(found.iter().flatten().map(|block| private(block).to_vec()));
@@ -140,11 +143,30 @@ pub fn broken(calls: &[Case; 2]) -> BTreeSet<Hypothesis> {
     broken
 }
 
+/// Whether a request has a fault in reading on both sides.
+fn is_faulty(request: &[u8], dialect: Dialect, stated: [Stated; 2]) -> bool {
+    stated.iter().all(|stated| fault_of(Message(request), dialect, *stated, Slip::NONE).is_some())
+}
+
+/// The public identity that a User-Data-Request names: what the 601 at the front of its 700 holds.
+fn asked_of_sh(request: &[u8], stated: [Stated; 2]) -> BTreeSet<Vec<u8>> {
+    if is_faulty(request, Dialect::Sh, stated) {
+        return BTreeSet::new();
+    }
+    let number = |at: usize| u32::from_be_bytes([request[at], request[at + 1], request[at + 2], request[at + 3]]);
+    let length = |at: usize| (number(at + 4) & 0xFF_FFFF) as usize;
+    let mut at = 20;
+    while !(number(at) == 700 && request[at + 4] & 0x80 != 0 && number(at + 8) == 10415) {
+        at = (at + length(at) + 3) / 4 * 4;
+    }
+    [request[at + 24..at + 12 + length(at + 12)].to_vec()].into()
+}
+
 /// The public and the private identities that a request names: every 601 of vendor 10415, and every 1 but in a LIR. In one that has no fault
 /// in reading these are those that the walk keeps; of one that has on both sides, none is looked up.
 fn asked(request: &[u8], stated: [Stated; 2]) -> (BTreeSet<Vec<u8>>, BTreeSet<Vec<u8>>) {
     let (mut publics, mut privates) = (BTreeSet::new(), BTreeSet::new());
-    if stated.iter().all(|stated| read(Message(request), *stated, Slip::NONE).is_err()) {
+    if is_faulty(request, Dialect::Cx, stated) {
         return (publics, privates);
     }
     let mut at = 20;

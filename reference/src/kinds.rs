@@ -1,7 +1,6 @@
 //! Codes, and the kinds of AVPs that are known.
 
 pub const VENDOR: u32 = 10415;
-pub const APPLICATION: u32 = 16_777_216;
 /// The one authentication scheme that is served.
 pub const SCHEME: &[u8] = b"Digest-AKAv1-MD5";
 
@@ -22,6 +21,56 @@ pub const SIP_AUTHORIZATION: u32 = 610;
 pub const SIP_ITEM_NUMBER: u32 = 613;
 pub const CONFIDENTIALITY_KEY: u32 = 625;
 pub const INTEGRITY_KEY: u32 = 626;
+pub const FEATURE_LIST_ID: u32 = 629;
+pub const FEATURE_LIST: u32 = 630;
+pub const MSISDN: u32 = 701;
+pub const SH_USER_DATA: u32 = 702;
+
+/// An interface: it has its own application, commands and known kinds.
+#[derive(Clone, Copy, PartialEq, Eq, Debug)]
+pub enum Dialect {
+    Cx,
+    Sh,
+}
+
+impl Dialect {
+    pub fn application(self) -> u32 {
+        match self {
+            Dialect::Cx => 16_777_216,
+            Dialect::Sh => 16_777_217,
+        }
+    }
+
+    pub fn commands(self) -> &'static [Command] {
+        match self {
+            Dialect::Cx => {
+                &[Command::UserAuthorization, Command::ServerAssignment, Command::LocationInfo, Command::MultimediaAuth]
+            }
+            Dialect::Sh => &[Command::UserData],
+        }
+    }
+
+    pub fn command(self, code: u32) -> Option<Command> {
+        self.commands().iter().copied().find(|command| command.code() == code)
+    }
+
+    /// The kinds that it knows.
+    pub fn kinds(self) -> Vec<Kind> {
+        KINDS.iter().copied().filter(|kind| self.knows(*kind)).collect()
+    }
+
+    /// Those of vendor 0 are common, and so is 628.
+    fn knows(self, kind: Kind) -> bool {
+        let of_sh = matches!(kind, UserIdentity | DataReference);
+        kind.vendor().is_none() || kind == SupportedFeatures || of_sh == (self == Dialect::Sh)
+    }
+
+    /// The known kind of this vendor and code; `None` for the vendor is an AVP without V.
+    pub fn kind(self, vendor: Option<u32>, code: u32) -> Option<Kind> {
+        let all = KINDS.iter().copied();
+        all.filter(|kind| self.knows(*kind)).find(|kind| kind.vendor() == vendor && kind.code() == code)
+    }
+}
 
 #[derive(Clone, Copy, PartialEq, Eq, Debug)]
 pub enum Command {
@@ -29,28 +78,35 @@ pub enum Command {
     ServerAssignment = 301,
     LocationInfo = 302,
     MultimediaAuth = 303,
+    /// Of Sh.
+    UserData = 306,
 }
 
-pub const COMMANDS: [Command; 4] =
-    [Command::UserAuthorization, Command::ServerAssignment, Command::LocationInfo, Command::MultimediaAuth];
-
 impl Command {
+    /// One of Cx.
     pub fn of(code: u32) -> Option<Command> {
-        COMMANDS.into_iter().find(|command| command.code() == code)
+        Dialect::Cx.command(code)
     }
 
     pub fn code(self) -> u32 {
         self as u32
     }
+
+    pub fn dialect(self) -> Dialect {
+        match self {
+            Command::UserData => Dialect::Sh,
+            _ => Dialect::Cx,
+        }
+    }
 }
 
 macro_rules! kinds {
     ($($kind:ident = $code:literal $name:literal,)*) => {
-        /// A known kind; its value is its code.
+        /// A kind that an interface knows; its value is its code.
         #[derive(Clone, Copy, PartialEq, Eq, Debug)]
         pub enum Kind { $($kind = $code,)* }
 
-        pub const KINDS: &[Kind] = &[$(Kind::$kind,)*];
+        const KINDS: &[Kind] = &[$(Kind::$kind,)*];
 
         impl Kind {
             pub fn name(self) -> &'static str {
@@ -80,6 +136,9 @@ kinds! {
     UserDataAlreadyAvailable = 624 "User-Data-Already-Available",
     SipNumberAuthItems = 607 "SIP-Number-Auth-Items",
     SipAuthDataItem = 612 "SIP-Auth-Data-Item",
+    SupportedFeatures = 628 "Supported-Features",
+    UserIdentity = 700 "User-Identity",
+    DataReference = 703 "Data-Reference",
 }
 
 use Kind::*;
@@ -89,9 +148,9 @@ const NEEDED_EVERYWHERE: [Kind; 6] =
     [SessionId, VendorSpecificApplicationId, AuthSessionState, OriginHost, OriginRealm, DestinationRealm];
 
 impl Kind {
-    /// The known kind of this vendor and code; `None` for the vendor is an AVP without V.
+    /// One that Cx knows.
     pub fn of(vendor: Option<u32>, code: u32) -> Option<Kind> {
-        KINDS.iter().copied().find(|kind| kind.vendor() == vendor && kind.code() == code)
+        Dialect::Cx.kind(vendor, code)
     }
 
     pub fn code(self) -> u32 {
@@ -110,6 +169,7 @@ impl Kind {
                 | ServerAssignmentType
                 | UserDataAlreadyAvailable
                 | SipNumberAuthItems
+                | DataReference
         )
     }
 
@@ -126,7 +186,8 @@ impl Kind {
             | ProxyInfo
             | RouteRecord => true,
             UserName => command != Command::LocationInfo,
-            PublicIdentity => true,
+            PublicIdentity | SupportedFeatures => command.dialect() == Dialect::Cx,
+            UserIdentity | DataReference => command == Command::UserData,
             VisitedNetworkIdentifier | UserAuthorizationType => command == Command::UserAuthorization,
             ServerName => matches!(command, Command::ServerAssignment | Command::MultimediaAuth),
             ServerAssignmentType | UserDataAlreadyAvailable => command == Command::ServerAssignment,
@@ -136,7 +197,7 @@ impl Kind {
 
     pub fn may_repeat_in(self, command: Command) -> bool {
         match self {
-            ProxyInfo | RouteRecord => true,
+            ProxyInfo | RouteRecord | SupportedFeatures | DataReference => true,
             PublicIdentity => command == Command::ServerAssignment,
             _ => false,
         }
@@ -151,13 +212,14 @@ pub fn needed(command: Command) -> Vec<Kind> {
         Command::ServerAssignment => &[ServerName, ServerAssignmentType, UserDataAlreadyAvailable],
         Command::LocationInfo => &[PublicIdentity],
         Command::MultimediaAuth => &[UserName, PublicIdentity, SipAuthDataItem, SipNumberAuthItems, ServerName],
+        Command::UserData => &[UserIdentity, DataReference],
     });
     needed
 }
 
 /// The name of an AVP that the documents know or write, or that real requests carry.
 pub fn name_of(vendor: Option<u32>, code: u32) -> Option<&'static str> {
-    if let Some(kind) = Kind::of(vendor, code) {
+    if let Some(kind) = KINDS.iter().find(|kind| kind.vendor() == vendor && kind.code() == code) {
         return Some(kind.name());
     }
     Some(match (vendor, code) {
@@ -179,6 +241,10 @@ pub fn name_of(vendor: Option<u32>, code: u32) -> Option<&'static str> {
         (Some(VENDOR), SIP_ITEM_NUMBER) => "SIP-Item-Number",
         (Some(VENDOR), CONFIDENTIALITY_KEY) => "Confidentiality-Key",
         (Some(VENDOR), INTEGRITY_KEY) => "Integrity-Key",
+        (Some(VENDOR), FEATURE_LIST_ID) => "Feature-List-ID",
+        (Some(VENDOR), FEATURE_LIST) => "Feature-List",
+        (Some(VENDOR), MSISDN) => "MSISDN",
+        (Some(VENDOR), SH_USER_DATA) => "User-Data",
         (Some(VENDOR), 633) => "Originating-Request",
         (Some(VENDOR), 637) => "UAR-Flags",
         _ => return None,

@@ -8,7 +8,8 @@ pub mod kinds;
 pub mod rng;
 pub mod slip;
 
-// What is lent and stated: a message, the peer's edition, the table with the moves between its editions and the take-over of a new one, the vector file.
+// What is lent and stated: a message, the peer's edition, the table with the moves between its editions, the take-over of a new one and its list,
+// the vector file.
 pub mod message;
 pub mod stated;
 pub mod table;
@@ -16,6 +17,7 @@ pub mod table;
 pub mod moves;
 pub mod vectors;
 
+pub mod list;
 pub mod take;
 
 // What comes of a request, and how it does.
@@ -30,9 +32,10 @@ pub mod refuse;
 
 pub mod serve;
 
-// Many calls in a row; the programs over files; what a person reads.
+// Many calls in a row; a call of the other interface; the programs over files; what a person reads.
 pub mod program;
 pub mod report;
+pub mod sh;
 pub mod show;
 
 // A call of an entry.

@@ -9,6 +9,7 @@ use reference::compare;
 use reference::cuts;
 use reference::demand3;
 use reference::gen::{self, Stream};
+use reference::kinds::Dialect;
 use reference::mutants;
 use reference::neighbours;
 use reference::program;
@@ -29,7 +30,8 @@ reference faults   [--silent]                               list the deliberate 
 reference mutants  --seed S [--from F] --count N            whether each deliberate fault is noticed
 reference cuts     --seed S [--from F] --count N [--fault NAME]
                                                             what the areas of cut take-overs read as
-kinds: tables, vectors, calls, reports, moves, takes; compare and stats alone: neighbours; compare alone: demand3, runs, breaches";
+kinds: tables, vectors, calls, reports, moves, takes, lists, voicemail;
+compare and stats alone: neighbours, neighbours-voicemail; compare alone: demand3, demand3-voicemail, runs, breaches";
 
 fn main() -> ExitCode {
     let arguments: Vec<String> = std::env::args().skip(1).collect();
@@ -69,18 +71,24 @@ fn run(arguments: &[String]) -> Result<bool, String> {
             }
             let (seed, numbers, command) = (options.seed, options.numbers()?, &options.command);
             match options.kind.as_deref() {
-                Some("demand3") => demand3::compare(seed, numbers, command),
-                Some("neighbours") => neighbours::compare(seed, numbers, command),
+                Some("demand3") => demand3::compare(Stream::Calls, seed, numbers, command),
+                Some("demand3-voicemail") => demand3::compare(Stream::Voicemail, seed, numbers, command),
+                Some("neighbours") => neighbours::compare(Dialect::Cx, seed, numbers, command),
+                Some("neighbours-voicemail") => neighbours::compare(Dialect::Sh, seed, numbers, command),
                 Some("breaches") => neighbours::breaches(seed, numbers, command),
                 Some("runs") => runs::compare(seed, numbers, command),
                 _ => compare::compare(options.stream()?, seed, numbers, command),
             }
             .map_err(told)
         }
-        "stats" if options.kind.as_deref() == Some("neighbours") => {
-            Ok(neighbours::stats(options.seed, options.numbers()?))
+        "stats" => {
+            let (seed, numbers) = (options.seed, options.numbers()?);
+            Ok(match options.kind.as_deref() {
+                Some("neighbours") => neighbours::stats(Dialect::Cx, seed, numbers),
+                Some("neighbours-voicemail") => neighbours::stats(Dialect::Sh, seed, numbers),
+                _ => stats::stats(options.stream()?, seed, numbers),
+            })
         }
-        "stats" => Ok(stats::stats(options.stream()?, options.seed, options.numbers()?)),
         "cuts" => Ok(cuts::cuts(options.seed, options.numbers()?, options.slip)),
         "mutants" => Ok(mutants::mutants(options.seed, options.numbers()?)),
         "faults" => {

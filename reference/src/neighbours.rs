@@ -8,14 +8,15 @@ use std::time::Instant;
 
 use crate::account;
 use crate::block::{word_at, BLOCK};
-use crate::cases::{Case, Entry, Outcome, Slice};
+use crate::cases::{Case, Outcome, Slice};
 use crate::compare::Fed;
 use crate::gen::neighbours::{broken, pair, Breach, BREACHES, SILENT};
 use crate::hypotheses::{self, Hypothesis};
-use crate::kinds::{Command, Kind};
+use crate::kinds::{Command, Dialect, Kind};
 use crate::message::Message;
 use crate::read::{vendors_of, SEVERAL};
 use crate::serve;
+use crate::sh;
 use crate::slip::Slip;
 use crate::stats::{least, ROUNDS};
 use crate::table::{header, Table, EDITION, EDITION_2, ISSUE};
@@ -75,9 +76,11 @@ fn own(calls: &[Case; 2]) -> ([Given; 2], [Why; 2]) {
         let case = &calls[side];
         let mut buffer = vec![0; case.buffer()];
         let (mut table, mut vectors) = (case.held(Slice::Table).into_owned(), case.held(Slice::Vectors).into_owned());
-        let (request, profile) = (case.held(Slice::Request), case.held(Slice::Profile));
-        let (word, why) =
-            serve::serve(&request, &mut table, &profile, &mut vectors, &mut buffer, case.stated(), Slip::NONE);
+        let (request, profile, stated) = (case.held(Slice::Request), case.held(Slice::Profile), case.stated());
+        let (word, why) = match case.entry.dialect() {
+            Dialect::Cx => serve::serve(&request, &mut table, &profile, &mut vectors, &mut buffer, stated, Slip::NONE),
+            Dialect::Sh => sh::user_data(&request, &table, &profile, &mut buffer, stated, Slip::NONE),
+        };
         let (number, _, value) = serve::parts(word);
         buffer.truncate(if number == 0 { value as usize } else { 0 });
         (Given { word, answer: buffer }, why)
@@ -91,12 +94,12 @@ fn told(calls: &[Case; 2]) -> Told {
     Told { bare, broken: hypotheses::broken(calls), rows: rows(calls, &own, &why[0]), own }
 }
 
-/// True if the driver's answers of all pairs are the same, and this program's too.
-pub fn compare(seed: u64, numbers: Range<u64>, command: &[String]) -> io::Result<bool> {
+/// True if the driver's answers of all pairs of an interface are the same, and this program's too.
+pub fn compare(dialect: Dialect, seed: u64, numbers: Range<u64>, command: &[String]) -> io::Result<bool> {
     let began = Instant::now();
-    let mut tally = Tally::default();
+    let mut tally = Tally::of(dialect);
     let mut fed = Fed::start(command, numbers.clone(), move |number| {
-        let calls = pair(seed, number);
+        let calls = pair(dialect, seed, number);
         let told = told(&calls);
         (calls.into(), told)
     })?;
@@ -115,7 +118,7 @@ pub fn compare(seed: u64, numbers: Range<u64>, command: &[String]) -> io::Result
         };
         if let Err(what) = relates(&told, &outcomes) {
             println!("pair {number} of seed {seed}: {what}");
-            tell(&pair(seed, number), &outcomes);
+            tell(&pair(dialect, seed, number), &outcomes);
             fed.abandon();
             return Ok(false);
         }
@@ -151,7 +154,7 @@ fn relates(told: &Told, outcomes: &[Outcome; 2]) -> Result<(), String> {
 fn tell(calls: &[Case; 2], outcomes: &[Outcome; 2]) {
     println!("  request:\n{}", account::lines(&calls[0].held(Slice::Request)));
     for (which, case, outcome) in [("one", &calls[0], &outcomes[0]), ("the other", &calls[1], &outcomes[1])] {
-        println!("  {which}: {}", account::word(Entry::Decide, outcome));
+        println!("  {which}: {}", account::word(case.entry, outcome));
         account::answer(which, case, outcome);
         for slice in [Slice::Table, Slice::Profile, Slice::Vectors].iter().filter(|it| case.held(**it).len() < 20_000) {
             println!("  {} of {which}:\n{}", slice.name(), account::lines(&case.held(*slice)));
@@ -160,14 +163,18 @@ fn tell(calls: &[Case; 2], outcomes: &[Outcome; 2]) {
 }
 
 /// How many pairs there were, and of what kinds.
-#[derive(Default)]
 struct Tally {
+    dialect: Dialect,
     pairs: u64,
     answered: u64,
     rows: BTreeMap<String, u64>,
 }
 
 impl Tally {
+    fn of(dialect: Dialect) -> Tally {
+        Tally { dialect, pairs: 0, answered: 0, rows: BTreeMap::new() }
+    }
+
     fn count(&mut self, told: &Told) {
         self.pairs += 1;
         if found(&told.own) != Found::Same {
@@ -204,7 +211,7 @@ impl Tally {
     /// Whether a row has too few, which is said.
     fn is_thin(&self, least: impl Fn(u64, u64) -> u64) -> bool {
         let mut thin = false;
-        for (row, one_in) in wanted() {
+        for (row, one_in) in wanted(self.dialect) {
             let (count, least) = (self.rows.get(&row).copied().unwrap_or(0), least(self.pairs, one_in));
             if count < least {
                 println!("too few: {row}: {count} of {least}");
@@ -215,17 +222,19 @@ impl Tally {
     }
 
     fn is_full(&self) -> bool {
-        wanted().iter().all(|(row, one_in)| self.rows.get(row).map_or(false, |it| *it >= least(self.pairs, *one_in)))
+        wanted(self.dialect)
+            .iter()
+            .all(|(row, one_in)| self.rows.get(row).map_or(false, |it| *it >= least(self.pairs, *one_in)))
     }
 }
 
 /// Counts pairs as this program answers them. Where a row has too few, the next pairs of the seed are counted too.
-pub fn stats(seed: u64, numbers: Range<u64>) -> bool {
-    let mut tally = Tally::default();
+pub fn stats(dialect: Dialect, seed: u64, numbers: Range<u64>) -> bool {
+    let mut tally = Tally::of(dialect);
     let (first, count) = (numbers.start, numbers.end - numbers.start);
     for round in 0..ROUNDS {
         for number in first + round * count..first + (round + 1) * count {
-            let told = told(&pair(seed, number));
+            let told = told(&pair(dialect, seed, number));
             if !told.broken.is_empty() || found(&told.own) == Found::Another {
                 println!("pair {number} of seed {seed}: hypotheses broken: {:?}", told.broken);
                 return false;
@@ -241,6 +250,7 @@ pub fn stats(seed: u64, numbers: Range<u64>) -> bool {
     !tally.is_thin(least)
 }
 
+const OWN_LIST: &str = "features: the own list is sent";
 const OVER_256: &str = "decided: over 256 records or more on a side";
 const OVER_2048: &str = "decided: over 2,048 records or more on a side";
 
@@ -251,6 +261,7 @@ fn rows(calls: &[Case; 2], own: &[Given; 2], why: &Why) -> Vec<String> {
     }
     let mut rows = vec![match why {
         Why::Decided(decision) => decided(decision),
+        Why::Unsupported(command) => format!("{} X5011", name(command.code())),
         Why::Header(_) => "header at fault".to_string(),
         _ => format!("{} with a fault in reading", name(Message(&calls[0].held(Slice::Request)).command())),
     }];
@@ -269,6 +280,9 @@ fn rows(calls: &[Case; 2], own: &[Given; 2], why: &Why) -> Vec<String> {
     }
     rows.extend(differences(calls).into_iter().map(|what| format!("differs: {what}")));
     rows.push(peer(&calls[0], why));
+    if Message(&own[0].answer).avps().sound(Slip::NONE).iter().any(|avp| avp.code == Kind::SupportedFeatures.code()) {
+        rows.push(OWN_LIST.to_string());
+    }
     rows
 }
 
@@ -317,6 +331,7 @@ fn name(command: u32) -> &'static str {
         301 => "SAR",
         302 => "LIR",
         303 => "MAR",
+        306 => "UDR",
         _ => "other",
     }
 }
@@ -361,29 +376,19 @@ fn differences(calls: &[Case; 2]) -> Vec<&'static str> {
     .collect()
 }
 
-/// The rows that there must be.
+/// The rows that there must be of pairs of Cx.
 pub fn required_rows() -> Vec<String> {
-    wanted().into_iter().map(|(row, _)| row).collect()
+    wanted(Dialect::Cx).into_iter().map(|(row, _)| row).collect()
 }
 
 /// Each with in how many pairs there is to be one.
-fn wanted() -> Vec<(String, u64)> {
-    let results = [
-        ("UAR", &["X2001", "X2002", "B2001", "B5003", "X5001", "X5002", "X5003", "X5004"][..]),
-        ("SAR", &["B2001", "X2004", "B5005", "B5009", "B5012", "X5001", "X5002", "X5005", "X5007"]),
-        ("LIR", &["B2001", "X2003", "X5001", "X5003"]),
-    ];
-    let mut wanted: Vec<String> = Vec::new();
-    for (command, results) in results {
-        wanted.extend(results.iter().map(|result| format!("{command} {result}")));
-        wanted.push(format!("{command} with a fault in reading"));
-    }
+fn wanted(dialect: Dialect) -> Vec<(String, u64)> {
+    let mut wanted = match dialect {
+        Dialect::Cx => wanted_of_cx(),
+        Dialect::Sh => wanted_of_sh(),
+    };
     wanted.push("header at fault".to_string());
     wanted.extend([1, 2].map(|edition| format!("decided: over edition {edition}, records on both sides")));
-    wanted.extend((0..=11).map(|asked_type| format!("asked: SAR of type {asked_type:2}")));
-    wanted.extend(["no identity", "one identity", "several identities"].map(|it| format!("asked: SAR of {it}")));
-    wanted.extend((0..=2).map(|asked_type| format!("asked: UAR of type {asked_type}")));
-    wanted.push("asked: LIR with a User-Name, which it does not name".to_string());
     let differences = [
         "the count",
         "the issue",
@@ -399,7 +404,6 @@ fn wanted() -> Vec<(String, u64)> {
         "a block number",
         "a profile start",
         "the profile file",
-        "the vector file",
         "the buffer's length",
         "the buffer's old bytes",
         "what is past the count",
@@ -411,6 +415,30 @@ fn wanted() -> Vec<(String, u64)> {
     let mut wanted: Vec<(String, u64)> = wanted.into_iter().map(|row| (row, 1000)).collect();
     wanted.push((OVER_2048.to_string(), 10_000));
     wanted
+}
+
+fn wanted_of_cx() -> Vec<String> {
+    let results = [
+        ("UAR", &["X2001", "X2002", "B2001", "B5003", "X5001", "X5002", "X5003", "X5004"][..]),
+        ("SAR", &["B2001", "X2004", "B5005", "B5009", "B5012", "X5001", "X5002", "X5005", "X5007"]),
+        ("LIR", &["B2001", "X2003", "X5001", "X5003"]),
+    ];
+    let mut wanted: Vec<String> = Vec::new();
+    for (command, results) in results {
+        wanted.extend(results.iter().map(|result| format!("{command} {result}")));
+        wanted.push(format!("{command} with a fault in reading"));
+        wanted.push(format!("{command} X5011"));
+    }
+    wanted.extend((0..=11).map(|asked_type| format!("asked: SAR of type {asked_type:2}")));
+    wanted.extend(["no identity", "one identity", "several identities"].map(|it| format!("asked: SAR of {it}")));
+    wanted.extend((0..=2).map(|asked_type| format!("asked: UAR of type {asked_type}")));
+    wanted.push("asked: LIR with a User-Name, which it does not name".to_string());
+    wanted.extend(["differs: the vector file".to_string(), OWN_LIST.to_string()]);
+    wanted
+}
+
+fn wanted_of_sh() -> Vec<String> {
+    ["B2001", "X5001", "X5100", "with a fault in reading"].map(|result| format!("UDR {result}")).to_vec()
 }
 
 /// What came of the pairs of a breach: how many were answered on both sides, and in how many of them the answers differ.
@@ -461,7 +489,7 @@ fn breaks(breach: Breach, broken: &BTreeSet<Hypothesis>) -> bool {
     match breach {
         Breach::Request => broken.contains(&Hypothesis::Request),
         Breach::Vectors => alone(Hypothesis::Command),
-        Breach::Peer => alone(Hypothesis::Stated),
+        Breach::Peer | Breach::Features => alone(Hypothesis::Stated),
         Breach::Unsound => alone(Hypothesis::Sound),
         Breach::Edition => alone(Hypothesis::Edition),
         Breach::Keep | Breach::Host | Breach::Realm | Breach::Network => alone(Hypothesis::Header),

@@ -1,28 +1,29 @@
 //! The place of the AVP at fault in the return word. The rest of the file is deliberate faults of it.
 
-use crate::kinds::{Command, Kind};
+use crate::kinds::{Command, Dialect, Kind};
 use crate::message::{padded, Avp, Message, HEADER};
-use crate::read::{read, vendors_of, SEVERAL};
+use crate::read::{fault_of, vendors_of, SEVERAL};
 use crate::slip::{Fault, Slip};
 use crate::stated::Stated;
 use crate::verdict::Code::{Base, Experimental};
 use crate::verdict::{Failed, Verdict, Why};
 
 /// The word's part for an answered request.
-pub fn of_answer(message: Message, verdict: &Verdict, slip: Slip) -> u64 {
-    let place = slip.0.and_then(|fault| astray(message, verdict, fault)).unwrap_or(verdict.place);
+pub fn of_answer(message: Message, dialect: Dialect, verdict: &Verdict, slip: Slip) -> u64 {
+    let place = slip.0.and_then(|fault| astray(message, dialect, verdict, fault)).unwrap_or(verdict.place);
     let shift = if slip.is(Fault::PlaceInValue) { 16 } else { 32 };
     (place as u64) << shift
 }
 
 /// The word's part for a refusal with this value.
-pub fn of_refusal(request: &[u8], number: u32, value: u32, stated: Stated, slip: Slip) -> u64 {
+pub fn of_refusal(request: &[u8], dialect: Dialect, refusal: (u32, u32), stated: Stated, slip: Slip) -> u64 {
+    let (number, value) = refusal;
     let astray = match slip.0 {
         Some(Fault::BadBlockInPlace) if number == 5 => value as usize,
         Some(Fault::UnknownPeerInPlace) if number == 12 => stated.peer as usize & 0xFFFF,
         // The others are given before there is a request to read.
         Some(Fault::RefusalPlaced) if matches!(number, 5 | 6) => {
-            read(Message(request), stated, slip).err().map_or(0, |finding| finding.place)
+            fault_of(Message(request), dialect, stated, slip).map_or(0, |finding| finding.place)
         }
         _ => 0,
     };
@@ -30,19 +31,22 @@ pub fn of_refusal(request: &[u8], number: u32, value: u32, stated: Stated, slip:
 }
 
 /// What a program with this fault tells, if it is one of the place.
-fn astray(message: Message, verdict: &Verdict, fault: Fault) -> Option<usize> {
-    let avps = message.avps().sound(Slip::of(fault));
+fn astray(message: Message, dialect: Dialect, verdict: &Verdict, fault: Fault) -> Option<usize> {
+    let all = message.avps().sound(Slip::of(fault)).into_iter();
+    let avps: Vec<Seen> = all.map(|avp| (dialect.kind(avp.vendor, avp.code), avp)).collect();
     astray_count(&avps, verdict, fault)
         .or_else(|| astray_rule(&avps, verdict, fault))
         .or_else(|| astray_elsewhere(message, &avps, verdict, fault))
 }
 
+/// An AVP, with its kind if it is known.
+type Seen<'a> = (Option<Kind>, Avp<'a>);
+
 /// Another count of the bytes before the AVP, or another AVP.
-fn astray_count(avps: &[Avp], verdict: &Verdict, fault: Fault) -> Option<usize> {
+fn astray_count(avps: &[Seen], verdict: &Verdict, fault: Fault) -> Option<usize> {
     let place = Some(verdict.place).filter(|place| *place != 0)?;
-    let before: Vec<&Avp> = avps.iter().filter(|avp| avp.at < place).collect();
-    let known = |avp: &&&Avp| Kind::of(avp.vendor, avp.code).is_some();
-    let at_fault = || avps.iter().find(|avp| avp.at == place);
+    let before: Vec<&Seen> = avps.iter().filter(|(_, avp)| avp.at < place).collect();
+    let at_fault = || avps.iter().map(|(_, avp)| avp).find(|avp| avp.at == place);
     Some(match fault {
         Fault::PlaceNeverTold => 0,
         Fault::PlaceFromFirstAvp => place - HEADER,
@@ -51,26 +55,27 @@ fn astray_count(avps: &[Avp], verdict: &Verdict, fault: Fault) -> Option<usize> 
         Fault::PlaceIn8Bits => place & 0xFF,
         Fault::FarthestPlaceLost if place == 16_380 => 0,
         Fault::PlaceIsNumber => before.len() + 1,
-        Fault::PlaceBefore => before.last()?.at,
+        Fault::PlaceBefore => before.last()?.1.at,
         Fault::PlaceBehind => place + padded(at_fault()?.whole.len()),
         Fault::PlaceOfData => place + at_fault()?.header().len(),
-        Fault::PlaceWithoutPadding => HEADER + before.iter().map(|avp| avp.whole.len()).sum::<usize>(),
+        Fault::PlaceWithoutPadding => HEADER + before.iter().map(|(_, avp)| avp.whole.len()).sum::<usize>(),
         Fault::PlaceWithoutUnknown => {
-            HEADER + before.iter().filter(known).map(|avp| padded(avp.whole.len())).sum::<usize>()
+            let known = before.iter().filter(|(kind, _)| kind.is_some());
+            HEADER + known.map(|(_, avp)| padded(avp.whole.len())).sum::<usize>()
         }
         _ => return None,
     })
 }
 
 /// Another place, or none, for one of the rules.
-fn astray_rule(avps: &[Avp], verdict: &Verdict, fault: Fault) -> Option<usize> {
+fn astray_rule(avps: &[Seen], verdict: &Verdict, fault: Fault) -> Option<usize> {
     let (rule, what) = match &verdict.why {
         Why::Rule(rule, what) => (*rule, *what),
         _ => return None,
     };
-    let at_fault = avps.iter().find(|avp| avp.at == verdict.place);
-    let kind = at_fault.and_then(|avp| Kind::of(avp.vendor, avp.code));
-    let unknown = |avp: &&Avp| Kind::of(avp.vendor, avp.code).is_none();
+    let seen = avps.iter().find(|(_, avp)| avp.at == verdict.place);
+    let (kind, at_fault) = (seen.and_then(|(kind, _)| *kind), seen.map(|(_, avp)| *avp));
+    let mut unknown = avps.iter().filter(|(kind, _)| kind.is_none()).map(|(_, avp)| avp);
     let first_member = || at_fault.filter(|group| !group.data.is_empty()).map(|group| group.members().at);
     match (fault, rule) {
         (Fault::LengthFaultUnplaced, 'a') => Some(0),
@@ -78,29 +83,33 @@ fn astray_rule(avps: &[Avp], verdict: &Verdict, fault: Fault) -> Option<usize> {
         (Fault::FirstAvpPlaced, 'b') => Some(HEADER),
         (Fault::ReservedFlagsUnplaced, 'c') => Some(0),
         (Fault::UnknownUnplaced, 'd') => Some(0),
-        (Fault::FirstUnknownPlaced, 'd') => avps.iter().find(unknown).map(|avp| avp.at),
-        (Fault::LastMarkedPlaced, 'd') => avps.iter().rfind(|avp| unknown(avp) && avp.is_marked()).map(|avp| avp.at),
+        (Fault::FirstUnknownPlaced, 'd') => unknown.next().map(|avp| avp.at),
+        (Fault::LastMarkedPlaced, 'd') => unknown.filter(|avp| avp.is_marked()).last().map(|avp| avp.at),
         (Fault::TooOftenUnplaced, 'f') => Some(0),
-        (Fault::FirstOfTwoPlaced, 'f') => {
-            avps.iter().find(|avp| Kind::of(avp.vendor, avp.code) == kind).map(|avp| avp.at)
-        }
+        (Fault::FirstOfTwoPlaced, 'f') => avps.iter().find(|(it, _)| *it == kind).map(|(_, avp)| avp.at),
         (Fault::FourBytesUnplaced, 'g') => Some(0),
         (Fault::ContentUnplaced, 'h') => Some(0),
         (Fault::SeveralVendorsUnplaced, 'h') => (what == SEVERAL).then_some(0),
-        (Fault::SecondVendorPlaced, 'h') if what == SEVERAL => vendors_of(*at_fault?).get(1).map(|second| second.at),
+        (Fault::SecondVendorPlaced, 'h') if what == SEVERAL => vendors_of(at_fault?).get(1).map(|second| second.at),
         (Fault::MemberOf260Placed, 'h') if kind == Some(Kind::VendorSpecificApplicationId) => first_member(),
         (Fault::MemberOf612Placed, 'h') if kind == Some(Kind::SipAuthDataItem) => first_member(),
+        (Fault::MemberOf628Placed, 'h') if kind == Some(Kind::SupportedFeatures) => first_member(),
+        (Fault::FeaturesUnplaced, 'h') if kind == Some(Kind::SupportedFeatures) => Some(0),
+        (Fault::MemberOf700Placed, 'h') if kind == Some(Kind::UserIdentity) => first_member(),
+        (Fault::UserIdentityUnplaced, 'h') if kind == Some(Kind::UserIdentity) => Some(0),
+        (Fault::ReferenceUnplaced, 'g') if kind == Some(Kind::DataReference) => Some(0),
         _ => None,
     }
 }
 
 /// A place where there is none: of header faults, of what is missing, and of decisions.
-fn astray_elsewhere(message: Message, avps: &[Avp], verdict: &Verdict, fault: Fault) -> Option<usize> {
+fn astray_elsewhere(message: Message, avps: &[Seen], verdict: &Verdict, fault: Fault) -> Option<usize> {
     let end = message.0.len();
-    let first = |kind: Kind| avps.iter().find(|avp| Kind::of(avp.vendor, avp.code) == Some(kind)).map(|avp| avp.at);
+    let first = |kind: Kind| avps.iter().find(|(it, _)| *it == Some(kind)).map(|(_, avp)| avp.at);
     let command = match &verdict.why {
         Why::Header(_) => return (fault == Fault::HeaderFaultPlaced).then_some(HEADER),
         Why::Missing(_) => return (fault == Fault::MissingPlaced).then_some(end),
+        Why::Unsupported(_) => return first(Kind::SupportedFeatures).filter(|_| fault == Fault::UnsupportedPlaced),
         Why::Decided(decision) => decision.command,
         _ => return None,
     };
@@ -115,6 +124,8 @@ fn astray_elsewhere(message: Message, avps: &[Avp], verdict: &Verdict, fault: Fa
         (Fault::AnotherServerPlaced, Experimental(5005), _) => first(Kind::ServerName),
         (Fault::SchemePlaced, Experimental(5006), _) => first(Kind::SipAuthDataItem),
         (Fault::AssignmentTypePlaced, Experimental(5007), _) => first(Kind::ServerAssignmentType),
+        (Fault::UserIdentityPlaced, Experimental(5001), _) => first(Kind::UserIdentity),
+        (Fault::ReferencePlaced, Experimental(5100), _) => first(Kind::DataReference),
         (Fault::UnablePlaced, Base(5012), _) => match command {
             Some(Command::MultimediaAuth) => first(Kind::SipNumberAuthItems),
             _ => first(Kind::ServerName),

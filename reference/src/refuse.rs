@@ -1,12 +1,12 @@
 //! The refusals of a call.
 
 use crate::block::BLOCK;
-use crate::kinds::Command;
+use crate::kinds::{Command, Dialect};
 use crate::message::{Message, HEADER, R};
-use crate::read::{read, read_header, SEVERAL};
+use crate::read::{fault_of, read_header, SEVERAL};
 use crate::slip::{Fault, Slip};
-use crate::stated::Stated;
-use crate::table::{self, Table, EDITION, EDITION_1, EDITION_2};
+use crate::stated::{Stated, RFC_6733};
+use crate::table::{self, Table, EDITION, EDITION_1, EDITION_2, LONGEST_PROFILE};
 use crate::vectors::{self, vector, Vector, Vectors};
 use crate::verdict::Why;
 
@@ -16,13 +16,22 @@ pub const MOST_REQUEST: usize = 16_384;
 
 /// What is lent to a call.
 pub struct Lent<'a> {
+    pub dialect: Dialect,
     pub request: &'a [u8],
     /// The working area, with the table at its front.
     pub table: &'a [u8],
     pub profile: &'a [u8],
+    /// To a call of Cx alone.
     pub vectors: &'a [u8],
     pub buffer: &'a [u8],
     pub stated: Stated,
+}
+
+impl Lent<'_> {
+    /// Whether the request has a fault in reading; only a faulty program asks it here.
+    fn is_at_fault(&self, slip: Slip) -> bool {
+        fault_of(Message(self.request), self.dialect, self.stated, slip).is_some()
+    }
 }
 
 /// The first refusal in their order: its number, and what is returned besides.
@@ -44,7 +53,8 @@ pub fn refusal(lent: &Lent, slip: Slip) -> Option<(u32, u32)> {
         (Some(Fault::UnknownPeerIsOne), 12) => 1,
         _ => number,
     };
-    order.into_iter().find_map(|number| Some((told(number), besides(number, lent, slip)?)))
+    let given = order.into_iter().filter(|number| *number != 6 || lent.dialect == Dialect::Cx);
+    given.into_iter().find_map(|number| Some((told(number), besides(number, lent, slip)?)))
 }
 
 /// What refusal `number` returns besides, if it is given. Those of 3 and 4 look at a header, which is there after 2.
@@ -89,12 +99,13 @@ fn besides(number: u32, lent: &Lent, slip: Slip) -> Option<u32> {
 fn unknown_peer(lent: &Lent, slip: Slip) -> Option<u32> {
     let message = Some(Message(lent.request)).filter(|_| lent.request.len() >= HEADER);
     let overlooked = match (slip.0, message) {
-        (Some(Fault::PeerNotForHeaderFaults), Some(message)) => read_header(message, slip).is_err(),
-        (Some(Fault::PeerOnlyForDecisions), Some(message)) => read(message, lent.stated, slip).is_err(),
+        (Some(Fault::PeerNotForHeaderFaults), Some(message)) => read_header(message, lent.dialect, slip).is_err(),
+        (Some(Fault::PeerOnlyForDecisions), Some(_)) => lent.is_at_fault(slip),
         (Some(Fault::PeerOnlyForSeveralVendors), Some(message)) => {
-            let finding = read(message, Stated::NEWER, slip).err();
+            let finding = fault_of(message, lent.dialect, Stated { peer: RFC_6733, ..lent.stated }, slip);
             finding.map_or(true, |finding| finding.why != Why::Rule('h', SEVERAL))
         }
+        (Some(Fault::PeerNotAskedInSh), _) => lent.dialect == Dialect::Sh,
         _ => false,
     };
     let value = if slip.is(Fault::UnknownPeerTold) { lent.stated.peer } else { 0 };
@@ -102,11 +113,18 @@ fn unknown_peer(lent: &Lent, slip: Slip) -> Option<u32> {
 }
 
 fn bad_block(lent: &Lent, slip: Slip) -> Option<u32> {
-    let faulty = || read(Message(lent.request), lent.stated, slip).is_err();
-    if slip.is(Fault::TableOnlyForDecisions) && lent.table.len() >= BLOCK && faulty() {
+    if slip.is(Fault::TableOnlyForDecisions) && lent.table.len() >= BLOCK && lent.is_at_fault(slip) {
         return None;
     }
+    let in_sh = lent.dialect == Dialect::Sh;
     let found = match slip.0 {
+        Some(Fault::AgreementNotAskedInSh) if in_sh => {
+            table::check_with(lent.table, lent.profile.len(), Slip::of(Fault::SetsMayDisagree))
+        }
+        Some(Fault::LongerAreaRefusedInSh) if in_sh => table::check_exactly(lent.table, lent.profile.len()),
+        Some(Fault::ProfileNotAskedInSh) if in_sh => {
+            table::check_with(lent.table, u32::MAX as usize + LONGEST_PROFILE, slip)
+        }
         Some(Fault::AgreementNotAskedInDecisions) => {
             table::check_with(lent.table, lent.profile.len(), Slip::of(Fault::SetsMayDisagree))
         }
@@ -119,13 +137,15 @@ fn bad_block(lent: &Lent, slip: Slip) -> Option<u32> {
     let refused = match slip.0 {
         Some(Fault::Edition1NotDecided) => Some(EDITION_1),
         Some(Fault::Edition2NotDecided) => Some(EDITION_2),
+        Some(Fault::Edition1RefusedInSh) if in_sh => Some(EDITION_1),
         _ => None,
     };
     if found.is_ok() && refused == Some(lent.table[EDITION]) {
         return Some(0);
     }
     let block = found.err()?;
-    Some(if slip.is(Fault::UnsoundReturnsZero) { 0 } else { block })
+    let is_zero = slip.is(Fault::UnsoundReturnsZero) || (in_sh && slip.is(Fault::UnsoundReturnsZeroInSh));
+    Some(if is_zero { 0 } else { block })
 }
 
 /// Refusal 6, whatever the command; the block is not told here.
@@ -134,8 +154,8 @@ fn bad_vectors(lent: &Lent, slip: Slip) -> Option<u32> {
     let overlooked = match slip.0 {
         Some(Fault::VectorsNotAsked) => true,
         Some(Fault::VectorsOnlyForAuthentication) => message.command() != Command::MultimediaAuth.code(),
-        Some(Fault::VectorsOnlyForDecisions) => read(message, lent.stated, slip).is_err(),
-        Some(Fault::VectorsNotForHeaderFaults) => read_header(message, slip).is_err(),
+        Some(Fault::VectorsOnlyForDecisions) => lent.is_at_fault(slip),
+        Some(Fault::VectorsNotForHeaderFaults) => read_header(message, lent.dialect, slip).is_err(),
         _ => false,
     };
     if overlooked {

@@ -73,6 +73,8 @@ fn command_name(command: u32, flags: u8) -> &'static str {
         (301, true) => "Server-Assignment-Request",
         (302, true) => "Location-Info-Request",
         (303, true) => "Multimedia-Auth-Request",
+        (306, false) => "User-Data-Answer",
+        (306, true) => "User-Data-Request",
         _ => "(not known)",
     }
 }
@@ -127,7 +129,7 @@ fn is_group(avp: Avp) -> bool {
     matches!(
         (avp.vendor, avp.code),
         (None, 260 | kinds::FAILED_AVP | 284 | kinds::EXPERIMENTAL_RESULT)
-            | (Some(VENDOR), kinds::SERVER_CAPABILITIES | 612)
+            | (Some(VENDOR), kinds::SERVER_CAPABILITIES | 612 | 628 | 700)
     )
 }
 
@@ -139,7 +141,9 @@ fn value(avp: Avp, experimental: bool) -> String {
             format!(" = X{code} {}", experimental_name(code))
         }
         (None, 258 | 259 | 266 | 277 | 278 | 298, Some(number))
-        | (Some(VENDOR), 604 | 605 | 607 | 613 | 614 | 623 | 624, Some(number)) => format!(" = {number}"),
+        | (Some(VENDOR), 604 | 605 | 607 | 613 | 614 | 623 | 624 | 629 | 630 | 703, Some(number)) => {
+            format!(" = {number}")
+        }
         _ if avp.data.is_empty() => String::new(),
         _ if avp.data.iter().all(|byte| (0x20..0x7F).contains(byte)) => {
             format!(" = \"{}\"", String::from_utf8_lossy(avp.data))
@@ -180,6 +184,8 @@ pub fn experimental_name(code: u32) -> &'static str {
         5005 => "identity already registered",
         5006 => "authentication scheme not supported",
         5007 => "error in assignment type",
+        5011 => "feature unsupported",
+        5100 => "user data not recognized",
         _ => "(not known)",
     }
 }

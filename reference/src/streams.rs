@@ -121,7 +121,15 @@ mod tests {
     use crate::stated::Stated;
 
     fn decide() -> Case {
-        Case::decide(9, vec![1, 2, 3], vec![4; 512], vec![], vec![7; 5], 36_864, Stated::OLDER)
+        Case::decide(
+            9,
+            vec![1, 2, 3],
+            vec![4; 512],
+            vec![],
+            vec![7; 5],
+            36_864,
+            Stated { peer: 3588, features: 0x0102_0304 },
+        )
     }
 
     fn written(case: &Case) -> Vec<u8> {
@@ -133,16 +141,17 @@ mod tests {
     #[test]
     fn cases_and_outcomes_come_back_as_written() {
         let stream = written(&decide());
-        let head = [2, 9, 5, 1, 0, 0, 0, 3, 0x80, 0, 2, 0, 0, 0, 0, 0, 0x80, 0, 0, 5, 0xC0, 0, 0x90, 0, 0, 0, 14, 4];
-        assert_eq!((&stream[..28], stream.len()), (&head[..], 28 + 3 + 512 + 5));
+        let head = [2, 9, 5, 2, 0, 0, 0, 3, 0x80, 0, 2, 0, 0, 0, 0, 0, 0x80, 0, 0, 5, 0xC0, 0, 0x90, 0];
+        assert_eq!((&stream[..24], stream.len()), (&head[..], 32 + 3 + 512 + 5));
+        assert_eq!(stream[24..32], [0, 0, 14, 4, 1, 2, 3, 4]);
         let mut from = &stream[..];
         assert_eq!(Case::read(&mut from).unwrap(), Some(decide()));
         assert_eq!(Case::read(&mut from).unwrap(), None);
 
         let report = Case::report(9, vec![1, 2, 3], [vec![4; 512], vec![], vec![7; 5]], 36_864, 1_160, Stated::NEWER);
         let stream = written(&report);
-        assert_eq!(stream[..4], [4, 9, 6, 1]);
-        assert_eq!(stream[20..32], [0xC0, 0, 0x90, 0, 0xC0, 0, 4, 0x88, 0, 0, 26, 77]);
+        assert_eq!(stream[..4], [4, 9, 6, 2]);
+        assert_eq!(stream[20..36], [0xC0, 0, 0x90, 0, 0xC0, 0, 4, 0x88, 0, 0, 26, 77, 0, 0, 0, 0]);
         assert_eq!(Case::read(&mut &stream[..]).unwrap(), Some(report));
 
         for (issue, head) in [(Some(0x0102_0304), &[5, 9, 2, 1][..]), (None, &[6, 9, 2, 0][..])] {
@@ -158,6 +167,22 @@ mod tests {
         assert_eq!(stream[..16], [7, 9, 3, 0, 0x80, 0, 2, 0, 0, 0, 0, 5, 0, 0, 0, 2]);
         assert_eq!(Case::read(&mut &stream[..]).unwrap(), Some(take));
 
+        let export = Case::export(9, vec![4; 512], vec![7; 5], 300);
+        let stream = written(&export);
+        assert_eq!(stream[..16], [8, 9, 3, 0, 0, 0, 2, 0, 0, 0, 0, 5, 0xC0, 0, 1, 44]);
+        assert_eq!(Case::read(&mut &stream[..]).unwrap(), Some(export));
+
+        let import = Case::import(9, vec![1, 2], vec![4; 512], vec![7; 5], 1024);
+        let stream = written(&import);
+        assert_eq!(stream[..20], [9, 9, 4, 0, 0, 0, 0, 2, 0, 0, 2, 0, 0, 0, 0, 5, 0xC0, 0, 4, 0]);
+        assert_eq!(Case::read(&mut &stream[..]).unwrap(), Some(import));
+
+        let voicemail = Case::sh_decide(9, vec![1, 2, 3], vec![4; 512], vec![7; 5], 36_864, 6733);
+        let stream = written(&voicemail);
+        assert_eq!(stream[..20], [10, 9, 4, 1, 0, 0, 0, 3, 0, 0, 2, 0, 0, 0, 0, 5, 0xC0, 0, 0x90, 0]);
+        assert_eq!(stream[20..24], [0, 0, 26, 77]);
+        assert_eq!(Case::read(&mut &stream[..]).unwrap(), Some(voicemail));
+
         let outcome = Outcome {
             word: 5 << 48 | 3,
             altered: 0,
@@ -171,7 +196,7 @@ mod tests {
 
     #[test]
     fn a_case_is_read_only_as_its_entry_takes_it() {
-        for (at, byte) in [(0, 1), (0, 9), (2, 4), (3, 0), (4, 0x80), (8, 0), (16, 0), (4, 0x20)] {
+        for (at, byte) in [(0, 1), (0, 99), (2, 4), (3, 0), (4, 0x80), (8, 0), (16, 0), (4, 0x20)] {
             let mut stream = written(&decide());
             stream[at] = byte;
             assert!(Case::read(&mut &stream[..]).is_err(), "byte {at} is {byte}");

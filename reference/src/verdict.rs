@@ -1,6 +1,7 @@
 //! What comes of a request: the result, what the answer carries, what becomes of the records, and what decided it.
 //! Reading, decisions and the answer share it.
 
+use std::borrow::Cow;
 use std::fmt;
 
 use crate::kinds::{Command, Kind};
@@ -47,6 +48,8 @@ pub enum Why {
     CheckedVectors(Result<u32, u32>),
     Moved(Result<u32, Refusal>),
     TakenOver(Result<u32, Refusal>),
+    /// Exported as a list, or imported from one.
+    Listed(Result<u32, Refusal>),
     /// A report was made, to the end of its file or not.
     Reported,
     Refused(u32),
@@ -55,6 +58,8 @@ pub enum Why {
     /// A rule for an AVP, and what it is about.
     Rule(char, &'static str),
     Missing(Kind),
+    /// A request of this command asks for features that are not supported.
+    Unsupported(Command),
     Decided(Box<Decision>),
 }
 
@@ -117,7 +122,7 @@ pub struct Verdict<'a> {
     /// The record whose capabilities the answer carries.
     pub capabilities: Option<Record<'a>>,
     /// At most one, but for a faulty program.
-    pub user_data: Vec<&'a [u8]>,
+    pub user_data: Vec<Cow<'a, [u8]>>,
     pub authentication: Option<Authentication<'a>>,
     /// By block number.
     pub rewritings: Vec<(usize, Rewriting)>,

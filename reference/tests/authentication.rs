@@ -295,7 +295,7 @@ fn other_commands_skip_607_and_612_and_a_mar_skips_theirs() {
 
 #[test]
 fn the_members_of_an_item_are_unknown_at_the_top() {
-    for code in [608, 609, 610, 611, 613, 625, 626, 628] {
+    for code in [608, 609, 610, 611, 613, 625, 626] {
         let marked = avp(code, b"data");
         fails_with(&alice_with(&[own(), vec![marked.clone()]].concat()), "B5001", &marked);
         let mut plain = marked;

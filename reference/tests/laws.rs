@@ -122,7 +122,7 @@ fn starts(request: &[u8]) -> Vec<usize> {
 #[test]
 fn the_avp_at_fault_stands_at_the_place() {
     let (mut placed, mut cut_off, mut second_identities) = (0, 0, 0);
-    for number in 0..500 {
+    for number in 0..800 {
         let case = make(Stream::Calls, 27, number).case;
         if !is_small(&case) {
             continue;

@@ -8,6 +8,7 @@ use reference::cases::{Case, Slice};
 use reference::gen::model::{RecordModel, TableModel};
 use reference::gen::neighbours::{broken, pair, Breach, BREACHES, SILENT};
 use reference::hypotheses::{self, Hypothesis};
+use reference::kinds::Dialect;
 use reference::neighbours::required_rows;
 use reference::slip::{by_name, Slip};
 use reference::stated::Stated;
@@ -29,7 +30,7 @@ fn is_small(calls: &[Case; 2]) -> bool {
 #[test]
 fn the_hypotheses_hold_of_every_pair_and_the_answers_are_the_same() {
     let mut answered = 0;
-    for calls in (0..1500).map(|number| pair(9, number)).filter(is_small) {
+    for calls in (0..1500).map(|number| pair(Dialect::Cx, 9, number)).filter(is_small) {
         assert_eq!(hypotheses::broken(&calls), [].into());
         if let [Some(one), Some(other)] = answers(&calls, Slip::NONE) {
             assert!(one == other);
@@ -39,11 +40,25 @@ fn the_hypotheses_hold_of_every_pair_and_the_answers_are_the_same() {
     assert!(answered > 1400);
 }
 
+/// Of the voicemail box too: the line is drawn for it as it is for the others.
+#[test]
+fn a_neighbour_does_not_show_in_a_document_either() {
+    let mut answered = 0;
+    for calls in (0..500).map(|number| pair(Dialect::Sh, 9, number)).filter(is_small) {
+        assert_eq!(hypotheses::broken(&calls), [].into());
+        if let [Some(one), Some(other)] = answers(&calls, Slip::NONE) {
+            assert!(one == other);
+            answered += 1;
+        }
+    }
+    assert!(answered > 450);
+}
+
 #[test]
 fn a_pair_can_be_made_again() {
     for number in [0, 1, 77] {
-        assert!(pair(3, number) == pair(3, number));
-        assert!(pair(3, number) != pair(3, number + 1));
+        assert!(pair(Dialect::Cx, 3, number) == pair(Dialect::Cx, 3, number));
+        assert!(pair(Dialect::Cx, 3, number) != pair(Dialect::Cx, 3, number + 1));
         assert!(broken(Breach::State, 3, number) == broken(Breach::State, 3, number));
     }
 }
@@ -52,7 +67,7 @@ fn a_pair_can_be_made_again() {
 fn may_break(breach: Breach) -> Vec<Hypothesis> {
     match breach {
         Breach::Request => vec![Hypothesis::Request, Hypothesis::Public, Hypothesis::Private, Hypothesis::Profile],
-        Breach::Peer => vec![Hypothesis::Stated],
+        Breach::Peer | Breach::Features => vec![Hypothesis::Stated],
         Breach::Vectors => vec![Hypothesis::Command],
         Breach::Unsound => vec![Hypothesis::Sound],
         Breach::Edition => vec![Hypothesis::Edition],
@@ -99,7 +114,7 @@ fn a_program_that_looks_at_a_neighbour_is_found_out() {
             [Some(one), Some(other)] => one != other,
             _ => false,
         };
-        assert!((0..6000).map(|number| pair(9, number)).filter(is_small).any(shows), "{name}");
+        assert!((0..6000).map(|number| pair(Dialect::Cx, 9, number)).filter(is_small).any(shows), "{name}");
     }
 }
 
@@ -226,7 +241,7 @@ fn whom_a_request_is_about() {
 
 /// With several Vendor-Ids a request from a newer peer has a fault in reading, so that it is about nobody.
 #[test]
-fn the_peers_edition_is_a_hypothesis() {
+fn what_is_stated_is_a_hypothesis() {
     let two = [number(266, 10_415), number(266, 10_415), number(258, 16_777_216)].concat();
     let mut lir = vec![avp(263, b"s;1"), avp(260, &two), number(277, 1), avp(264, b"cscf.isle"), avp(296, b"isle")];
     lir.extend([avp(283, b"isle"), avp(601, b"b")]);
@@ -247,6 +262,9 @@ fn the_peers_edition_is_a_hypothesis() {
     assert_eq!(found(&none, [newer; 2]), []);
     assert_eq!(found(&none, [older, newer]), [&[Hypothesis::Stated], &both[..]].concat());
     assert_eq!(found(&none, [newer, older]), [&[Hypothesis::Stated], &both[..]].concat());
+    let supporting = |features| Stated { features, ..newer };
+    assert_eq!(found(&none, [supporting(3), supporting(3)]), []);
+    assert_eq!(found(&none, [supporting(3), supporting(2)]), [Hypothesis::Stated]);
 }
 
 /// As a guest house may ask: another subscriber registers, is barred, leaves; the answer for my line stays.

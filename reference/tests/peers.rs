@@ -23,7 +23,7 @@ fn isle_of_alice() -> Vec<u8> {
 }
 
 fn from(peer: u32, request: &[u8]) -> Done {
-    call_stating(Stated { peer }, request, &isle_of_alice(), b"", b"", ROOM)
+    call_stating(Stated { peer, ..Stated::OLDER }, request, &isle_of_alice(), b"", b"", ROOM)
 }
 
 /// The result, with the place.
@@ -94,7 +94,7 @@ fn it_goes_before_all_others() {
         (6, &request[..], &table, &bad_vectors[..], ROOM),
         (1, none, &bad_table, &bad_vectors[..], 0),
     ] {
-        let call = |peer| call_stating(Stated { peer }, request, table, b"", vectors, room);
+        let call = |peer| call_stating(Stated { peer, ..Stated::OLDER }, request, table, b"", vectors, room);
         for peer in [OLDER, NEWER] {
             assert_eq!(call(peer).number, number);
         }
@@ -206,7 +206,7 @@ fn is_small(case: &Case) -> bool {
 
 /// The same call from another peer.
 fn from_peer(case: &Case, peer: u32) -> Case {
-    Case { numbers: vec![peer], ..case.clone() }
+    Case { numbers: Stated { peer, ..case.stated() }.numbers(), ..case.clone() }
 }
 
 /// Whether some 260 at the top of a request has several 266, by bytes alone.
@@ -264,7 +264,7 @@ fn run(peer: u32, requests: &[u8], room: usize, area: usize) -> Run {
         vectors: &mut [],
         buffer: &mut buffer,
         report: &mut area,
-        stated: Stated { peer },
+        stated: Stated { peer, ..Stated::OLDER },
     };
     let word = report(lent, Slip::NONE).0;
     let words = area.chunks(8).map(|word| word.iter().fold(0, |sum, byte| sum << 8 | u64::from(*byte))).collect();

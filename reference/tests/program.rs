@@ -88,6 +88,25 @@ fn an_answer_to_an_avp_at_fault_is_written_alone() {
     assert!(said(&folder, "answer", &asked) == done.answer);
 }
 
+/// It states RFC 3588 and no feature: several Vendor-Ids are taken, and the own list is empty.
+#[test]
+fn an_answer_is_that_to_an_older_peer_of_a_server_without_features() {
+    let folder = folder("stated");
+    let several = avp(260, &[number(266, 10415), number(266, 10415), number(258, 16_777_216)].concat());
+    let asked = |features: Vec<u8>| {
+        let avps =
+            [avp(263, b"s;1"), several.clone(), number(277, 1), avp(264, b"c"), avp(296, b"isle"), avp(283, b"isle")];
+        message(302, &[&avps[..], &[avp(601, b"sip:nobody@isle"), features]].concat())
+    };
+    let list = |bits: u32| avp(628, &[number(266, 10415), number(629, 1), number(630, bits)].concat());
+    assert_eq!(result(&said(&folder, "answer", &asked(list(1)))), "X5011");
+    let answer = said(&folder, "answer", &asked(list(0)));
+    assert_eq!(
+        (result(&answer), find(&answer, 628).map(|data| data[40..].to_vec())),
+        ("X5001".into(), Some(vec![0; 4]))
+    );
+}
+
 #[test]
 fn a_vector_file_that_is_a_folder_or_too_long_is_told() {
     let folder = folder("unreadable");

@@ -17,7 +17,7 @@ fn spans(column: &str) -> impl Iterator<Item = &str> {
 }
 
 /// Each request's heading, and its readings that cases can show.
-fn requests() -> [(&'static str, Vec<u32>); 7] {
+fn requests() -> [(&'static str, Vec<u32>); 10] {
     [
         // 19 is about programs over files.
         ("The authentication request", (1..=25).filter(|number| *number != 19).collect()),
@@ -30,6 +30,11 @@ fn requests() -> [(&'static str, Vec<u32>); 7] {
         ("Registering one registers the set", (1..=12).collect()),
         ("Taking over a new table", (1..=12).collect()),
         ("The newer base standard", (1..=6).collect()),
+        // 10 is about a program.
+        ("Features", (1..=9).collect()),
+        // 15 is about crates.
+        ("The voicemail box", (1..=14).collect()),
+        ("A list for the billing desk", (1..=14).collect()),
     ]
 }
 
@@ -68,8 +73,12 @@ fn every_fault_about_a_request_goes_against_a_reading() {
     let of_areas =
         ["area", "take-over", "new table", "past the count", "past the table", "refusal 9", "refusal 10", "refusal 11"];
     let of_peers = ["peer", "RFC 6733", "refusal 12", "Vendor-Ids are"];
+    let of_features = ["628", "629", "630", "X5011", "own list", "features"];
+    let of_voicemail = [" Sh ", "in Sh", "700", "702", "703", "the document", "X5100", "306", "data reference"];
+    let of_lists = ["export", "import", "listed", "a list", " line", "refusal 13", "refusal 14", "refusal 15"];
     let is_about = |what: &str| {
-        let all = [&words[..], &of_place, &of_report, &of_editions, &of_sets, &of_areas, &of_peers].concat();
+        let before = [&words[..], &of_place, &of_report, &of_editions, &of_sets, &of_areas, &of_peers, &of_features];
+        let all = [before.concat(), of_lists.to_vec(), of_voicemail.to_vec()].concat();
         all.into_iter().any(|word| what.contains(word))
     };
     for (fault, what) in FAULTS.iter().filter(|(_, what)| is_about(what)) {

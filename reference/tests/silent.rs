@@ -45,7 +45,7 @@ fn no_case_shows_a_silent_fault() {
 /// What is decided of a request, whatever the table.
 fn decided(request: &[u8], table: &[u8], slip: Slip) -> Code {
     let request = read(Message(request), Stated::OLDER, Slip::NONE).ok().unwrap();
-    decide(&request, Files { table: Table(table), profile: b"", vectors: Vectors(b"") }, slip).result
+    decide(&request, Files { table: Table(table), profile: b"", vectors: Vectors(b"") }, Stated::OLDER, slip).result
 }
 
 /// A record of `p`, in set 5.

@@ -1,6 +1,6 @@
 #!/usr/bin/env python3
-"""judge.py CAPTURE: what tshark says of every message that the daemon sent: whole, without a complaint, and each answer to a request. Then the
-same of a copy in which one answer is damaged: it must complain."""
+"""judge.py CAPTURE: what tshark says of every message that the daemon sent: whole, without a complaint, and each answer to a request; and who asked for
+features, which nobody else is told. Then the same of a copy in which one answer is damaged: it must complain."""
 import collections
 import subprocess
 import sys
@@ -41,6 +41,12 @@ def tally(capture, which, name, letter):
     return collections.Counter(letter + one for line in fields(capture, which, [name]) for one in listed(line[0]))
 
 
+def features(capture, which, name):
+    """How many frames have a Supported-Features (628), by that name in them: each message of the trials that has one stands alone in its frame."""
+    lines = fields(capture, which, [name, "diameter.avp.code"])
+    return collections.Counter(listed(line[0])[0] for line in lines if "628" in listed(line[1]))
+
+
 def said(counter):
     return ", ".join("%s %d" % (name, count) for name, count in sorted(counter.items())) or "none"
 
@@ -65,11 +71,14 @@ def main():
     types = tally(capture, TO_DAEMON, "diameter.Server-Assignment-Type", "")
     results = tally(capture, BY_DAEMON, "diameter.Result-Code", "B") + tally(capture, BY_DAEMON, "diameter.Experimental-Result-Code", "X")
     print("judge.py: SARs by type: %s; results: %s" % (said(types), said(results)))
+    asking, told = features(capture, TO_DAEMON, "diameter.Origin-Host"), features(capture, BY_DAEMON, "diameter.Origin-Host")
+    print("judge.py: Supported-Features came from: %s; and went out from: %s" % (said(asking), said(told)))
     noticed = bool(judge(damaged(capture))[3])
     print("judge.py: of a copy with a damaged answer tshark %s" % ("complains" if noticed else "says nothing"))
     wrong = ["no %s was sent" % one for one in sorted({"CEA", "DWA", "DPA"} - set(answers))]
     wrong += ["no SAR of type %s came" % one for one in sorted({"1", "2", "3", "5"} - set(types))]
-    wrong += ["no answer was %s" % one for one in sorted({"B2001", "B5003", "B5012", "X2001", "X5001", "X5003", "X5004", "X5006"} - set(results))]
+    wrong += ["no answer was %s" % one for one in sorted({"B2001", "B5003", "B5012", "X2001", "X5001", "X5003", "X5004", "X5006", "X5011"} - set(results))]
+    wrong += ["%d asked for features, and %d were told" % (sum(asking.values()), sum(told.values()))] if sum(asking.values()) != sum(told.values()) else []
     wrong += ["only %d answers" % sum(answers.values())] if sum(answers.values()) <= 50 else []
     wrong += ["answers without their request"] if unpaired else []
     wrong += ["complaints"] if complaints else []

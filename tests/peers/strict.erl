@@ -1,5 +1,5 @@
 %% Erlang's diameter as a strict client of the daemon: every answer is decoded against cx.dia, and one with an error is dropped by the stack
-%% (answer_errors is discard, its default) and so a failure here.
+%% (answer_errors is discard, its default) and so a failure here. The daemon supports bits 0 and 1 of list 1, and tells whoever asks, and nobody else.
 %% erl -noshell -s strict run ADDRESS PORT
 -module(strict).
 -export([run/1]).
@@ -27,9 +27,16 @@ trials(Address, Port) ->
     Server = {'Server-Name', "sip:scscf1.isle:6060"},
     User = [{'User-Name', "alice@isle"}, {'Public-Identity', Alice}],
     Scheme = {'SIP-Auth-Data-Item', [{'SIP-Authentication-Scheme', ["Digest-AKAv1-MD5"]}]},
+    Asking = fun(Bits) -> {'Supported-Features', [[{'Vendor-Id', 10415}, {'Feature-List-ID', 1}, {'Feature-List', Bits}]]} end,
+    Told = [{10415, 1, 3}],
     Steps =
         [{"UAR of alice, never registered", ['UAR' | User ++ [{'Visited-Network-Identifier', "isle"}]], {x, 2001}},
          {"LIR of alice, never registered", ['LIR', {'Public-Identity', Alice}], {x, 5003}},
+         {"LIR that asks for what is supported", ['LIR', {'Public-Identity', Alice}, Asking(3)], {x, 5003}, Told},
+         {"LIR that asks for more", ['LIR', {'Public-Identity', Alice}, Asking(4)], {x, 5011}, Told},
+         {"UAR that asks for more", ['UAR' | User ++ [{'Visited-Network-Identifier', "isle"}, Asking(7)]], {x, 5011}, Told},
+         {"MAR that asks for more", ['MAR' | User ++ [Scheme, {'SIP-Number-Auth-Items', 1}, Server, Asking(16#80000000)]], {x, 5011}, Told},
+         {"MAR that asks for what is supported", ['MAR' | User ++ [Scheme, {'SIP-Number-Auth-Items', 1}, Server, Asking(1)]], {b, 2001}, Told},
          {"MAR for three vectors", ['MAR' | User ++ [Scheme, {'SIP-Number-Auth-Items', 3}, Server]], {b, 2001}},
          {"SAR of type 1", ['SAR', {'User-Name', ["alice@isle"]}, {'Public-Identity', [Alice]}, Server, {'Server-Assignment-Type', 1},
                             {'User-Data-Already-Available', 0}], {b, 2001}},
@@ -59,10 +66,12 @@ trials(Address, Port) ->
     ok = diameter:stop_service(lenient),
     length(Steps) + 2.
 
-step({What, Request, Wanted}) ->
-    Got = result(plain(ask(strict, Request))),
+step({What, Request, Wanted}) -> step({What, Request, Wanted, []});
+step({What, Request, Wanted, Told}) ->
+    Answer = plain(ask(strict, Request)),
+    Got = {result(Answer), told(Answer)},
     io:format("strict.erl: ~s: ~p~n", [What, Got]),
-    Wanted = Got.
+    {Wanted, Told} = Got.
 
 plain({ok, [Name | Fields]}) when is_list(Fields) -> {Name, maps:from_list(Fields)};
 plain({ok, [Name | Fields]}) -> {answer_of(Name), Fields};
@@ -76,6 +85,10 @@ result({_, #{'Result-Code' := Code}}) when is_integer(Code) -> {b, Code};
 result({_, #{'Experimental-Result' := [Group]}}) -> result({x, #{'Experimental-Result' => Group}});
 result({_, #{'Experimental-Result' := #{'Experimental-Result-Code' := Code, 'Vendor-Id' := 10415}}}) -> {x, Code};
 result(Other) -> Other.
+
+told({_, #{'Supported-Features' := Lists}}) ->
+    [{Vendor, List, Bits} || #{'Vendor-Id' := Vendor, 'Feature-List-ID' := List, 'Feature-List' := Bits} <- Lists];
+told(_) -> [].
 
 service(Name, Strict) ->
     diameter:start_service(Name,

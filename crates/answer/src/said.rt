@@ -18,15 +18,17 @@ fn put_said(out: &mut [u8], w: u64) -> usize
     lines::put_words(out, b"refused ", number as u64, b"\n")
 }
 
-// The program's peer follows RFC 3588.
+// The program's peer follows RFC 3588, and no feature is supported.
 const PEER: u32 = 3588;
+
+const FEATURES: u32 = 0;
 
 // What is said to a request, at the front of out.
 pub fn answer_to(out: &mut [u8], req: &[u8], t: &mut [u8], file: &[u8], v: &mut [u8]) -> usize
     requires { ⌜ 30 ≤ length (now out) ⌝ }
     ensures { λ r. ⌜ (r ≤ length (now (out .exit)))
-        × SaidTo (lent (now (req .entry)) (now (t .entry)) (now (file .entry)) (now (v .entry)) (now (out .entry)) (underCx 3588)) (now (out .exit)) r ⌝ }
+        × SaidTo (lent (now (req .entry)) (now (t .entry)) (now (file .entry)) (now (v .entry)) (now (out .entry)) (underCx 3588 0)) (now (out .exit)) r ⌝ }
 {
-    let w = ndushavire::ndushavire_decide(req, t, file, v, out, PEER);
+    let w = ndushavire::ndushavire_decide(req, t, file, v, out, PEER, FEATURES);
     put_said(out, w)
 }

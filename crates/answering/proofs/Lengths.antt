@@ -11,14 +11,15 @@ use Rattle.failed.specs.Failing.{failedBy}
 use Rattle.choices.specs.declared.Given.{Given}
 use Rattle.parts.specs.Profile.{profileAt}
 use Rattle.reply.specs.Pieces.{topBytes, givenBytes}
-use Rattle.reply.proofs.Lengths.{front-length, header-length, origin-length, names-length, data-length}
+use Rattle.envelope.proofs.Lengths.{front-length, header-length, origin-length}
+use Rattle.reply.proofs.Lengths.{list-length, names-length, data-length}
 use Rattle.answering.specs.Answer.{failedPart, proxies, endBytes, restBytes, bodyBytes, answerBytes}
-use Rattle.answering.proofs.Copies.{session-proxies}
+use Rattle.envelope.proofs.Copies.{session-proxies}
 
--- 3,716 bytes are bounded by the table's fields and by 16 vectors; the rest comes from the request and from the profile file
+-- 3,772 bytes are bounded by the table's fields and by 16 vectors; the rest comes from the request and from the profile file
 module _ (t : List ℕ) (count : ℕ) (s : SoundTable t count) (terms : Terms) (req file v : List ℕ) (g : Given) (good : Sendable v (g .sent)) where
   body-length : length (bodyBytes terms req t file v g)
-      ≤ 3716 + copiedSize (length (sessionOf (bodyOf req))) + copiedSize (length (profileAt t file (g .profile)))
+      ≤ 3772 + copiedSize (length (sessionOf (bodyOf req))) + copiedSize (length (profileAt t file (g .profile)))
       + length (failedPart (failedBy req (g .verdict))) + length (proxies (bodyOf req))
   unfolding bodyBytes topBytes restBytes givenBytes endBytes
   body-length =
@@ -27,6 +28,7 @@ module _ (t : List ℕ) (count : ℕ) (s : SoundTable t count) (terms : Terms) (
         arith,
         front-length terms (sessionOf (bodyOf req)) (g .verdict .result),
         origin-length t count s,
+        list-length terms req,
         names-length t count s g,
         sent-most v (g .sent) good,
         data-length t count s file g,
@@ -34,7 +36,7 @@ module _ (t : List ℕ) (count : ℕ) (s : SoundTable t count) (terms : Terms) (
 
   -- Session-Id and every Proxy-Info are copied from different AVPs.
   pub answer-length : 20 ≤ length req → length req % 4 ≡ 0
-      → length (answerBytes terms req t file v g) ≤ 3716 + length req + copiedSize (length (profileAt t file (g .profile)))
+      → length (answerBytes terms req t file v g) ≤ 3772 + length req + copiedSize (length (profileAt t file (g .profile)))
       + length (failedPart (failedBy req (g .verdict)))
   unfolding answerBytes
   answer-length h e =

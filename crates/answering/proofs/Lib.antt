@@ -1,5 +1,3 @@
-pub mod Copies
 pub mod Ending
 pub mod Lengths
-pub mod Proxies
 pub mod Whole

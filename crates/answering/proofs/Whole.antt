@@ -1,13 +1,19 @@
 -- The whole answer: its body, then its header.
-use Rattle.octets.specs.Standard.{ℕ, _+_, _≤_, refl, List, arith, length, length-append, length-take, length-drop}
+use Rattle.octets.specs.Standard.{ℕ, _+_, _≤_, _≡_, refl, List, arith, length, length-append, length-take, length-drop}
 use Rattle.octets.specs.Run.{Wrote}
 use Rattle.octets.proofs.Writes.{lent, back, then, named, then-front}
 use Rattle.reading.specs.declared.Terms.{Terms}
+use Rattle.requests.specs.Features.{listCalled, wantedOf}
+use Rattle.requests.specs.declared.features.Wanted.{Wanted}
 use Rattle.choices.specs.declared.Given.{Given}
 use Rattle.reply.specs.Pieces.{topBytes, headerBytes}
-use Rattle.reply.proofs.Rooms.{room-left, room-right}
-use Rattle.reply.proofs.Lengths.{header-length}
+use Rattle.envelope.proofs.Rooms.{room-left, room-right}
+use Rattle.envelope.proofs.Lengths.{header-length}
 use Rattle.answering.specs.Answer.{restBytes, bodyBytes, answerBytes}
+
+-- whether the own list is called for
+pub listed-is : (terms : Terms) (req : List ℕ) (w : Wanted) → w ≡ wantedOf terms req → w .listed ≡ listCalled terms req
+listed-is terms req w e = rw e
 
 module _ (terms : Terms) (req t file v : List ℕ) (g : Given) where
   pub top-room : {m : ℕ} → length (bodyBytes terms req t file v g) ≤ m → length (topBytes terms req t (g .verdict .result)) ≤ m

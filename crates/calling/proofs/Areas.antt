@@ -11,8 +11,8 @@ use Rattle.reading.specs.declared.Terms.{Terms}
 use Rattle.calling.specs.Call.{Refused}
 use Rattle.calling.specs.declared.Came.{Came}
 use Rattle.calling.specs.Lent.{Lent, lent, holding, tableOnly, putBack}
-use Rattle.calling.specs.Serve.{Served, SameCall, earlyTrials, fileTrials, refused, answered, checkOf, checkValue, decided, serveFound, serveTableBy}
-use Rattle.calling.specs.Serve.{serveTable, overArea, serve}
+use Rattle.calling.specs.Serve.{Served, SameCall, earlyTrials, fileTrials, refused, answered, answeredBy, checkOf, checkValue, decided}
+use Rattle.calling.specs.Serve.{serveFound, serveTableBy, serveTable, overArea, serve}
 use Rattle.calling.specs.Trial.{tried, anyHolds}
 use Rattle.calling.specs.Leaves.{Leaves, Comes}
 use Rattle.calling.proofs.Kept.{serve-by, table-checked}
@@ -78,7 +78,7 @@ sound-large t u file count e f =
 
 -- A CALL OVER A TABLE leaves one as large.
 pub served-large : (x : Lent) → AsLarge (x .table) (serveTable x .table)
-unfolding refused answered
+unfolding refused answeredBy
 served-large x =
     serve-by x (λ (s : Served). checkTable (s .table) (length (x .profile)) ≡ checkOf x → AsLarge (x .table) (s .table))
     (λ r a b e. record { bytes = refl; counts = refl })
@@ -151,7 +151,8 @@ bad-table : (x : Lent) (k : ℕ) → anyHolds (earlyTrials (x .terms) (x .reques
     → serveTable x ≡ record { call = Refused 5 k; table = x .table; vectors = x .vectors; buffer = x .buffer }
 unfolding serveTableBy serveFound tried refused
 bad-table x k e f =
-    tried-past (refused x) (answered x (decided x)) (earlyTrials (x .terms) (x .request) (x .buffer)) (fileTrials (checkOf x) (checkVectors (x .vectors))) e ∙ rw f
+    tried-past (refused x) (answered x (decided x)) (earlyTrials (x .terms) (x .request) (x .buffer))
+    (fileTrials (checkOf x) (checkVectors (x .vectors))) e ∙ rw f
 
 pub bad-refused : (x : Lent) (k : ℕ) → anyHolds (earlyTrials (x .terms) (x .request) (x .buffer)) ≡ false → checkArea (x .table) (length (x .profile)) ≡ Bad k
     → serve x ≡ record { call = Refused 5 k; table = x .table; vectors = x .vectors; buffer = x .buffer }

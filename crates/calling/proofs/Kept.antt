@@ -10,8 +10,8 @@ use Rattle.deciding.proofs.Kept.{decide-keeping, decide-vectors}
 use Rattle.deciding.proofs.Tests.{neither}
 use Rattle.calling.specs.Lent.{Lent, dialectIn}
 use Rattle.calling.specs.Trial.{Trial, anyHolds}
-use Rattle.calling.specs.Serve.{Served, unknownPeer, smallBuffer, wrongSize, wrongLength, noRequest, isBad, checkOf, checkValue, trials, refused, answered}
-use Rattle.calling.specs.Serve.{decided, serveFound, serveTableBy, serveTable}
+use Rattle.calling.specs.Serve.{Served, unknownPeer, smallBuffer, wrongSize, wrongLength, noRequest, isBad, checkOf, checkValue, trials}
+use Rattle.calling.specs.Serve.{refused, answered, answeredBy, decided, serveFound, serveTableBy, serveTable}
 use Rattle.calling.proofs.Trials.{tried-by}
 
 -- a file that is not bad is sound
@@ -77,7 +77,7 @@ module _ (x : Lent) where
       refl
 
   pub table-checked : checkTable (serveTable x .table) (length (x .profile)) ≡ checkOf x
-  unfolding refused answered
+  unfolding refused answeredBy
   table-checked =
       serve-by (λ s. checkTable (s .table) (length (x .profile)) ≡ checkOf x) (λ r a b. refl)
       (λ k.
@@ -87,7 +87,7 @@ module _ (x : Lent) where
       ∙ sym (k .table))
 
   pub vectors-checked : checkVectors (serveTable x .vectors) ≡ checkVectors (x .vectors)
-  unfolding refused answered
+  unfolding refused answeredBy
   vectors-checked =
       serve-by (λ s. checkVectors (s .vectors) ≡ checkVectors (x .vectors)) (λ r a b. refl)
       (λ k. decide-vectors (dialectIn x) (x .request) (x .table) (checkValue (checkOf x)) (x .vectors) (k .vectors))

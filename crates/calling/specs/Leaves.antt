@@ -5,10 +5,10 @@ use mathlib.Core.List.{List}
 use Rattle.blocks.specs.declared.Checked.{Checked}
 use Rattle.rewrite.specs.Change.{alteredUpTo}
 use Rattle.diameter.specs.Message.{commandOf}
-use Rattle.reading.specs.declared.Terms.{Terms}
 use Rattle.calling.specs.Lent.{Lent}
+unfoldable pub use Rattle.refusals.specs.Early.{early}
 use Rattle.calling.specs.Trial.{tried}
-use Rattle.calling.specs.Serve.{Served, earlyTrials, fileTrials, refused, answered, decision, checkValue}
+use Rattle.calling.specs.Serve.{Served, fileTrials, refused, answered, decision, checkValue}
 use Rattle.calling.specs.declared.Came.{Came}
 use Rattle.calling.specs.declared.Came.the-variants as came
 use Rattle.calling.specs.Call.{Call, Answered, Refused}
@@ -37,10 +37,6 @@ pub record Comes (s : Served) (r : Came) (table' vectors' buffer' : List ℕ) : 
   pub table-is : table' ≡ s .table
   pub vectors-is : vectors' ≡ s .vectors
   pub buffer-is : buffer' ≡ s .buffer
-
--- the number of the first of five refusals that holds, 0 if none does
-unfoldable pub early : Terms → List ℕ → List ℕ → ℕ
-early terms req o = tried (λ r. r .number) 0 (earlyTrials terms req o)
 
 unfoldable pub serveChecked : Lent → Checked → Checked → Served
 serveChecked x c d = tried (refused x) (answered x (decision x (checkValue c))) (fileTrials c d)

@@ -1,21 +1,17 @@
 -- One call: what it comes to, the table, the vectors and the buffer afterwards, for any bytes.
-use Prim.Native.Nat.{ℕ, _%_}
+use Prim.Native.Nat.{ℕ}
 use mathlib.Core.List.{List, [], _∷_, _++_}
-use mathlib.Core.Bool.{Bool, true, false, not, _&&_, _||_}
 use mathlib.Core.Path.{_≡_}
-use lib.ListN.{length, getD}
-use lib.Dec.{eqb, ltb}
-use Rattle.octets.specs.Number.{be24At}
+use lib.ListN.{length}
 use Rattle.octets.specs.Run.{over}
 use Rattle.blocks.specs.declared.Checked.{Checked}
-use Rattle.blocks.specs.declared.Checked.the-variants.{Sound, Bad}
 use Rattle.vectors.specs.VectorFile.{checkVectors}
 use Rattle.deciding.specs.Rules.{Rules, inForce}
 use Rattle.deciding.specs.Decide.{Decision, decideBy}
-use Rattle.answering.specs.Answer.{answerBytes}
-use Rattle.reading.specs.Groups.{rfc3588, rfc6733}
 use Rattle.reading.specs.declared.Outcome.{Outcome}
 use Rattle.reading.specs.declared.Terms.{Terms}
+pub use Rattle.refusals.specs.Early.{unknownPeer, smallBuffer, wrongSize, noRequest, earlyTrials, isBad, checkValue, unsound}
+unfoldable pub use Rattle.refusals.specs.Early.{wrongLength}
 use Rattle.calling.specs.Call.{Call, Answered, Refused}
 use Rattle.calling.specs.Lent.{Lent, tableOnly, putBack, dialectIn}
 use Rattle.calling.specs.Trial.{Trial, tried}
@@ -27,53 +23,11 @@ pub record Served : Type 0 where
   pub vectors : List ℕ
   pub buffer : List ℕ
 
--- 12: "a peer edition other than the two .., before 1"
-abbrev pub unknownPeer : Terms → Bool
-unknownPeer terms = not (eqb (terms .peer) rfc3588) && not (eqb (terms .peer) rfc6733)
-
--- 1: "answer buffer under 36,864 bytes"
-abbrev pub smallBuffer : List ℕ → Bool
-smallBuffer o = ltb (length o) 36864
-
--- 2: "request under 20 or over 16,384 bytes"
-abbrev pub wrongSize : List ℕ → Bool
-wrongSize req = ltb (length req) 20 || ltb 16384 (length req)
-
--- 3: "header length differs from the request's length, or is no multiple of 4"
-unfoldable pub wrongLength : List ℕ → Bool
-wrongLength req = not (eqb (be24At req 1) (length req)) || not (eqb (length req % 4) 0)
-
--- 4: "R bit clear"
-abbrev pub noRequest : List ℕ → Bool
-noRequest req = ltb (getD req 4 0) 128
-
--- 5: "table unsound", with the "first bad block"
-abbrev pub isBad : Checked → Bool
-isBad (Sound count) = false
-isBad (Bad block) = true
-
-abbrev pub checkValue : Checked → ℕ
-checkValue (Sound count) = count
-checkValue (Bad block) = block
-
-abbrev pub unsound : Checked → Trial
-unsound c = record { holds = isBad c; number = 5; besides = checkValue c }
-
 -- "6, vector file unsound, at every call, after 5"
 abbrev pub unsoundVectors : Checked → Trial
 unsoundVectors d = record { holds = isBad d; number = 6; besides = 0 }
 
--- "Five refusals of the call", the sixth and the twelfth, in their order, with what each returns besides: those that look at no file, and those of a table and
--- a vector file that are checked so
-abbrev pub earlyTrials : Terms → List ℕ → List ℕ → List Trial
-earlyTrials terms req o =
-    record { holds = unknownPeer terms; number = 12; besides = 0 }
-    ∷ record { holds = smallBuffer o; number = 1; besides = 0 }
-    ∷ record { holds = wrongSize req; number = 2; besides = 0 }
-    ∷ record { holds = wrongLength req; number = 3; besides = 0 }
-    ∷ record { holds = noRequest req; number = 4; besides = 0 }
-    ∷ []
-
+-- those of a table and a vector file that are checked so
 abbrev pub fileTrials : Checked → Checked → List Trial
 fileTrials c d = unsound c ∷ unsoundVectors d ∷ []
 
@@ -86,16 +40,16 @@ refused x r = record { call = Refused (r .number) (r .besides); table = x .table
 
 -- the answer of a decision; "the call returns the answer's length; buffer bytes past it stay"; "and the entry shall return, beside the answer's length,
 -- the place of the AVP at fault"
-abbrev pub answerOf : Lent → Decision → List ℕ
-answerOf x d = answerBytes (x .terms) (x .request) (x .table) (x .profile) (x .vectors) (d .given)
+abbrev pub answerBy : Rules → Lent → Decision → List ℕ
+answerBy r x d = r .answer (x .terms) (x .request) (x .table) (x .profile) (x .vectors) (d .given)
 
-unfoldable pub answered : Lent → Decision → Served
-answered x d =
+unfoldable pub answeredBy : Rules → Lent → Decision → Served
+answeredBy r x d =
     record {
-      call = Answered (record { length = length (answerOf x d); place = d .place });
+      call = Answered (record { length = length (answerBy r x d); place = d .place });
       table = d .table;
       vectors = d .vectors;
-      buffer = over (answerOf x d) (x .buffer);
+      buffer = over (answerBy r x d) (x .buffer);
     }
 
 -- A call under some rules, over a table whose length must be exact, where its check answers so: "Tried in this order. .. Otherwise the call returns the
@@ -104,12 +58,18 @@ abbrev pub decisionBy : Rules → Lent → ℕ → Decision
 decisionBy r x count = decideBy r (dialectIn x) (x .request) (x .table) count (x .vectors)
 
 unfoldable pub serveFound : Rules → Lent → Checked → Served
-serveFound r x c = tried (refused x) (answered x (decisionBy r x (checkValue c))) (trialsOf x c)
+serveFound r x c = tried (refused x) (answeredBy r x (decisionBy r x (checkValue c))) (trialsOf x c)
 
 unfoldable pub serveTableBy : Rules → Lent → Served
 serveTableBy r x = serveFound r x (r .check (x .table) (length (x .profile)))
 
 -- under the rules in force
+abbrev pub answerOf : Lent → Decision → List ℕ
+answerOf = answerBy inForce
+
+abbrev pub answered : Lent → Decision → Served
+answered = answeredBy inForce
+
 abbrev pub serveTable : Lent → Served
 serveTable = serveTableBy inForce
 

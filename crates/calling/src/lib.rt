@@ -2,76 +2,28 @@
 use answering::Ground;
 use blocks::Checked;
 use deciding::Told;
-use diameter::message;
 use reading::Terms;
+use requests::features;
 ghost use mathlib.Core.Path.{_≡_};
 ghost use Prim.Native.Nat.{_≤_};
 ghost use lib.ListN.{length};
 ghost use Rattle.table.specs.Check.{checkTable};
 ghost use Rattle.table.specs.SoundTable.{SoundTable};
 ghost use Rattle.vectors.specs.VectorFile.{checkVectors};
+ghost use Rattle.requests.specs.Features.{wantedOf};
 ghost use Rattle.requests.specs.Request.{dialectOf};
-ghost use Rattle.deciding.specs.Passed.{Passed};
+ghost use Rattle.refusals.specs.Passed.{Passed};
 ghost use Rattle.calling.specs.Lent.{lent};
-ghost use Rattle.calling.specs.Serve.{wrongLength, checkOf, checkValue, serveTable, serve};
-ghost use Rattle.calling.specs.Leaves.{Leaves, Comes, early, serveChecked};
+ghost use Rattle.calling.specs.Serve.{checkOf, checkValue, serveTable, serve};
+ghost use Rattle.calling.specs.Leaves.{Leaves, Comes, serveChecked};
 
-// The seven refusals, by their numbers.
-const UNKNOWN_PEER: u16 = 12;
-
-const SMALL_BUFFER: u16 = 1;
-
-const WRONG_SIZE: u16 = 2;
-
-const WRONG_LENGTH: u16 = 3;
-
-const NO_REQUEST: u16 = 4;
-
-pub const UNSOUND: u16 = 5;
-
+// The last refusal, by its number.
 pub const UNSOUND_VECTORS: u16 = 6;
-
-// "answer buffer under 36,864 bytes"; "request under 20 or over 16,384 bytes"
-const ROOM: usize = 36864;
-
-const LEAST: usize = 20;
-
-const MOST: usize = 16384;
 
 // What a call comes to: an answer, with what is told of it, or a refusal's number with what it returns besides.
 pub enum Came {
     Answered(Told),
     Refused { number: u16, besides: u32 },
-}
-
-// "header length differs from the request's length, or is no multiple of 4"
-fn wrong_length(req: &[u8]) -> bool
-    requires { ⌜ 20 ≤ length (now req) ⌝ }
-    ensures { λ r. ⌜ r ≡ wrongLength (now (req .entry)) ⌝ }
-{
-    (octets::number::be24(req, message::LENGTH_AT) != req.len()) | (req.len() % 4 != 0)
-}
-
-// The number of the first refusal that holds, of the five that look at no table; 0 if none does.
-fn early(terms: Terms, req: &[u8], out: &[u8]) -> u16
-    ensures { λ r. ⌜ r ≡ early terms (now (req .entry)) (now (out .entry)) ⌝ }
-{
-    if (terms.peer != reading::RFC_3588) & (terms.peer != reading::RFC_6733) {
-        return UNKNOWN_PEER;
-    }
-    if out.len() < ROOM {
-        return SMALL_BUFFER;
-    }
-    if (req.len() < LEAST) | (MOST < req.len()) {
-        return WRONG_SIZE;
-    }
-    if wrong_length(req) {
-        return WRONG_LENGTH;
-    }
-    if req[message::FLAGS_AT] < message::R_BIT {
-        return NO_REQUEST;
-    }
-    0
 }
 
 // What calls over the same files share: what the checks of the table and of the vector file say, which a call keeps, and the terms.
@@ -92,7 +44,7 @@ fn over_sound(
     out: &mut [u8],
 ) -> Came
     requires { ⌜ Passed (now req) (now out) × SoundTable (now t) (ground .count) × (d ≡ checkVectors (now v))
-        × (ground .dialect ≡ dialectOf (ground .dialect .terms) (now req)) ⌝ }
+        × (ground .dialect ≡ dialectOf (ground .dialect .terms) (now req)) × (ground .wanted ≡ wantedOf (ground .dialect .terms) (now req)) ⌝ }
     ensures { λ r. ⌜ Leaves (lent (now (req .entry)) (now (t .entry)) (now (file .entry)) (now (v .entry)) (now (out .entry)) (ground .dialect .terms))
         (serveChecked (lent (now (req .entry)) (now (t .entry)) (now (file .entry)) (now (v .entry)) (now (out .entry)) (ground .dialect .terms))
         (Checked.Sound (ground .count)) d)
@@ -128,14 +80,16 @@ fn over_checked(
     let dialect = requests::dialect(req, k.terms);
     match c {
         Checked::Sound(count) => {
+            let wanted = features::wanted_of(req, k.terms);
             let ground = Ground {
                 dialect,
+                wanted,
                 count: count as usize,
             };
             over_sound(d, ground, req, t, file, v, out)
         }
         Checked::Bad(block) => Came::Refused {
-            number: UNSOUND,
+            number: refusals::UNSOUND,
             besides: block,
         },
     }
@@ -155,7 +109,7 @@ pub fn call_over(
         (serveTable (lent (now (req .entry)) (now (t .entry)) (now (file .entry)) (now (v .entry)) (now (out .entry)) (k .terms)))
         (checkValue (k .table)) r (now (t .exit)) (now (v .exit)) (now (out .exit)) ⌝ }
 {
-    let number = early(k.terms, req, out);
+    let number = refusals::early(k.terms, req, out);
     if 0 < number {
         return Came::Refused { number, besides: 0 };
     }
@@ -176,7 +130,7 @@ fn call_table(
         (checkValue (checkOf (lent (now (req .entry)) (now (t .entry)) (now (file .entry)) (now (v .entry)) (now (out .entry)) terms)))
         r (now (t .exit)) (now (v .exit)) (now (out .exit)) ⌝ }
 {
-    let number = early(terms, req, out);
+    let number = refusals::early(terms, req, out);
     if 0 < number {
         return Came::Refused { number, besides: 0 };
     }

@@ -28,6 +28,7 @@ fn decide(given: &[u8], w: &[u8; 64]) -> bool {
         &mut v[..m],
         &mut out[..room],
         words::number_of(w, 5),
+        words::number_of(w, 6),
     );
     outcome::put(word, 3)
         & outcome::put_change(table, &t)
@@ -65,6 +66,7 @@ fn report(given: &[u8], w: &[u8; 64]) -> bool {
         &mut out[..room],
         &mut written[..k],
         words::number_of(w, 6),
+        words::number_of(w, 7),
     );
     outcome::put(word, 4)
         & outcome::put_change(table, &t)

@@ -28,6 +28,7 @@ use Rattle.reading.specs.declared.Outcome.the-variants.{Base, Experimental}
 use Rattle.reading.specs.declared.Verdict.{Verdict}
 use Rattle.counting.specs.Results.{baseResults, experimentalResults, indexIn}
 use Rattle.counting.specs.Counting.{listed, Listed}
+use Rattle.requests.specs.Features.{beyondSet}
 use Rattle.requests.specs.Identity.{placesFrom}
 use Rattle.requests.specs.Judged.{Judged, bad, fine}
 use Rattle.requests.specs.Request.{readIn, given, dataSeen, schemeOf, identities}
@@ -64,7 +65,7 @@ use Rattle.assignment.proofs.OwnTurns.{no-zero}
 use Rattle.assignment.proofs.Rows.{row-fits}
 use Rattle.deciding.specs.Plans.{assignmentOf, uarPlan, sarPlan, lirPlan, marPlan, planRead}
 use Rattle.deciding.specs.Rules.{inForce}
-use Rattle.deciding.specs.Decide.{Decision, faulted, performedBy, judgedBy, decideBy, decide}
+use Rattle.deciding.specs.Decide.{Decision, faulted, featureUnsupported, performedBy, judgedBy, decideBy, decide}
 use Rattle.deciding.proofs.Read.{Fails, fails-listed, read-fails, read-command}
 use Rattle.deciding.proofs.Tests.{either}
 use Rattle.deciding.proofs.Cases.{Blameless, Succeeds, Carries, carries-fault, sending, Tells, Owner, the-user, the-first, Comes, tells}
@@ -411,23 +412,25 @@ module _ (dialect : Dialect) (req t : List ℕ) (count : ℕ) (v : List ℕ) (se
           let r = read-command dialect req seen read in
           mar-comes (omega (arith, eqb-false n 300 a, eqb-false n 301 b, eqb-false n 302 c, r .0, r .1))
 
--- What holds of a fault that reading found, and of what a request that was read comes to, holds of the decision.
+-- What holds of a fault, that reading found or of a feature that is not supported, and of what a request that was read comes to, holds of the decision.
 pub decide-by : (dialect : Dialect) (req t : List ℕ) (count : ℕ) (v : List ℕ) (P : Decision → Type 0)
-    → ((f : Verdict) → readIn dialect req ≡ bad f → Fails (f .result) → P (faulted t v f))
+    → ((f : Verdict) → Fails (f .result) → P (faulted t v f))
     → ((seen : Seen) → readIn dialect req ≡ fine seen → (p : Plan) → Comes dialect req t count v seen p → P (performedBy inForce req t count v seen p))
     → P (decide dialect req t count v)
-unfolding decideBy judgedBy
+unfolding decideBy judgedBy listed indexIn experimentalResults numberOf
 decide-by dialect req t count v P faults reads = go (readIn dialect req) refl
   where
     go : (j : Judged) → readIn dialect req ≡ j → P (judgedBy inForce dialect req t count v j)
-    go (bad f) e = faults f e (read-fails dialect req f e)
-    go (fine seen) e = reads seen e (planRead dialect req t count v seen) (comes dialect req t count v seen e)
+    go (bad f) e = faults f (read-fails dialect req f e)
+    go (fine seen) e =
+        either P (beyondSet (dialect .terms) req) (faults featureUnsupported refl)
+        (reads seen e (planRead dialect req t count v seen) (comes dialect req t count v seen e))
 
 -- what each answer carries
 pub decide-carries : (dialect : Dialect) (req t : List ℕ) (count : ℕ) (v : List ℕ) → Carries count (decide dialect req t count v .given)
 unfolding performedBy
 decide-carries dialect req t count v =
-    decide-by dialect req t count v (λ d. Carries count (d .given)) (λ f e b. carries-fault count f (fails-listed (f .result) b)) (λ seen e p c. go seen p c)
+    decide-by dialect req t count v (λ d. Carries count (d .given)) (λ f b. carries-fault count f (fails-listed (f .result) b)) (λ seen e p c. go seen p c)
   where
     go : (seen : Seen) (p : Plan) → Comes dialect req t count v seen p → Carries count (p .given)
     go seen p (tells g x) = x .carries

@@ -47,4 +47,4 @@ module _ (dialect : Dialect) (req t : List ℕ) (count : ℕ) (v : List ℕ) (ve
 
   pub decide-sendable : Sendable v (decide dialect req t count v .given .sent)
   unfolding performedBy
-  decide-sendable = decide-by dialect req t count v (λ d. Sendable v (d .given .sent)) (λ f e b. none-sendable v) (λ seen e p c. comes-sendable seen p c)
+  decide-sendable = decide-by dialect req t count v (λ d. Sendable v (d .given .sent)) (λ f b. none-sendable v) (λ seen e p c. comes-sendable seen p c)

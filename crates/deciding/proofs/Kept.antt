@@ -26,7 +26,7 @@ writes-keeping dialect req t count v seen sound w =
 pub decide-keeping : (dialect : Dialect) (req t : List ℕ) (count : ℕ) (v : List ℕ) → SoundTable t count → Keeping t (decide dialect req t count v .table) count
 unfolding performedBy carriedOut
 decide-keeping dialect req t count v sound =
-    decide-by dialect req t count v (λ d. Keeping t (d .table) count) (λ f e b. keeping-same t count) (λ seen e p c. go seen p c)
+    decide-by dialect req t count v (λ d. Keeping t (d .table) count) (λ f b. keeping-same t count) (λ seen e p c. go seen p c)
   where
     go : (seen : Seen) (p : Plan) → Comes dialect req t count v seen p → Keeping t (carriedOut req t count seen (p .deed)) count
     go seen p (tells g x) = keeping-same t count
@@ -37,7 +37,7 @@ pub decide-vectors : (dialect : Dialect) (req t : List ℕ) (count : ℕ) (v : L
     → checkVectors (decide dialect req t count v .vectors) ≡ checkVectors v
 unfolding performedBy spentBy
 decide-vectors dialect req t count v s =
-    decide-by dialect req t count v (λ d. checkVectors (d .vectors) ≡ checkVectors v) (λ f e b. refl) (λ seen e p c. go seen p c)
+    decide-by dialect req t count v (λ d. checkVectors (d .vectors) ≡ checkVectors v) (λ f b. refl) (λ seen e p c. go seen p c)
   where
     go : (seen : Seen) (p : Plan) → Comes dialect req t count v seen p → checkVectors (spentBy v (p .given .sent) (p .deed)) ≡ checkVectors v
     go seen p (tells g x) = refl

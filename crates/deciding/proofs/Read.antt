@@ -2,7 +2,6 @@
 use Rattle.octets.specs.Standard.{ℕ, _+_, _/_, _%_, _≤_, List, [], _∷_, none, Bool, true, false, cond, not, _&&_, _≡_, refl, _⊎_, inl, inr, arith}
 use Rattle.octets.specs.Standard.{length, getD, eqb, leb, eqb-true, eqb-false, leb-true}
 use Rattle.octets.proofs.All.{and-left, and-right}
-use Rattle.octets.proofs.Chains.{chain-says}
 use Rattle.diameter.specs.Avp.{padded, avpHead, avpFlags, dataOf, valueOf, reserved, marked}
 use Rattle.diameter.specs.Message.{versionOf, messageFlags, applicationOf, bodyOf}
 use Rattle.diameter.specs.AvpAt.{present}
@@ -20,10 +19,11 @@ use Rattle.reading.specs.declared.Outcome.the-variants.{Base}
 use Rattle.reading.specs.declared.Ruled.{Ruled}
 use Rattle.reading.specs.declared.Ruled.the-variants.{Taken, Skipped, Fault}
 use Rattle.reading.specs.declared.Use.{Use}
-use Rattle.reading.specs.declared.Use.the-variants.{Unknown, Unnamed, Needed, Optional, Repeated}
+use Rattle.reading.specs.declared.Use.the-variants.{Unknown, Unnamed, Needed, Optional, Repeated, Several}
 use Rattle.reading.specs.declared.Verdict.{Verdict}
 use Rattle.counting.specs.Results.{baseResults, indexIn}
 use Rattle.counting.specs.Counting.{listed, Listed}
+pub use Rattle.requests.proofs.Kept.{read-command}
 use Rattle.requests.specs.Judged.{Judged, bad, fine, nothing, onRule, judge}
 use Rattle.requests.specs.Request.{cx, spoken, headerFault, firstOther, missing, complete, readWalk, readIn}
 use Rattle.deciding.proofs.Tests.{either}
@@ -76,6 +76,7 @@ use-fails Unnamed earlier flags n l = tt
 use-fails Needed earlier flags n l = either RuleFails earlier refl (content-fails n l)
 use-fails Optional earlier flags n l = either RuleFails earlier refl (content-fails n l)
 use-fails Repeated earlier flags n l = content-fails n l
+use-fails Several earlier flags n l = content-fails n l
 
 rule-fails : (d : Dialect) (seen : Seen) (a : List ℕ) → RuleFails (rule d seen a)
 unfolding rule ruleBy listed indexIn baseResults numberOf
@@ -125,28 +126,3 @@ judged-fails d req =
 
 pub read-fails : (d : Dialect) (req : List ℕ) (f : Verdict) → readIn d req ≡ bad f → Fails (f .result)
 read-fails d req f e = rw e at (judged-fails d req)
-
--- Of a request that was read the header has no fault.
-fine-first : (x : Bool) (w : Judged) (v : Verdict) {seen : Seen} → cond x w (bad v) ≡ fine seen → x ≡ true
-fine-first true w v e = refl
-fine-first false w v e = absurd (let z : _≡_ {A = ℕ} 0 1 = cc in omega arith)
-
-unspoken : (version error : Bool) → _≡_ {A = ℕ} (cond version 5011 (cond error 3008 3001)) 0 → ⊥
-unspoken true error e = omega arith
-unspoken false true e = omega arith
-unspoken false false e = omega arith
-
-header-speaks : (d : Dialect) (req : List ℕ) → headerFault d req ≡ 0 → spoken d ≡ true
-unfolding headerFault
-header-speaks d req e = go (spoken d) refl
-  where
-    go : (x : Bool) → spoken d ≡ x → x ≡ true
-    go true f = refl
-    go false f = absurd (unspoken (not (eqb (versionOf req) 1)) (eqb (messageFlags req / 32 % 2) 1) (rw f at e))
-
-pub read-command : (d : Dialect) (req : List ℕ) (seen : Seen) → readIn d req ≡ fine seen → (300 ≤ d .command) × (d .command ≤ 303)
-unfolding readIn
-read-command d req seen e =
-    let f : spoken d ≡ true = header-speaks d req (eqb-true _ _ (fine-first (eqb (headerFault d req) 0) _ _ e)) in
-    let s = chain-says (eqb (d .terms .application) cx) (leb 300 (d .command) ∷ leb (d .command) 303 ∷ []) f in
-    (leb-true _ _ (s 1), leb-true _ _ (s 2))

@@ -1,15 +1,13 @@
 -- Every answer fits: no request of at most 16,384 bytes has one of more than 36,864.
-use Rattle.octets.specs.Standard.{ℕ, _+_, _≤_, _%_, List, Option, some, _≡_, _⊎_, inl, inr, arith, length, drop, length-drop, ltb}
+use Rattle.octets.specs.Standard.{ℕ, _+_, _≤_, _%_, List, _≡_, _⊎_, inl, inr, arith, length}
 use Rattle.table.specs.SoundTable.{SoundTable}
 use Rattle.vectors.specs.Sendable.{Sendable}
 use Rattle.vectors.specs.VectorFile.{SoundVectors}
 use Rattle.pen.specs.Bytes.{copiedSize}
-use Rattle.reading.specs.Verdicts.{numberOf}
 use Rattle.reading.specs.declared.Dialect.{Dialect}
 use Rattle.reading.specs.declared.Terms.{Terms}
-use Rattle.reading.specs.declared.Verdict.{Verdict}
-use Rattle.failed.specs.Failing.{failedOf, example, failedBy}
-use Rattle.failed.proofs.Short.{fault-length, example-length}
+use Rattle.failed.specs.Failing.{failedBy}
+use Rattle.envelope.proofs.Lengths.{failed-short}
 use Rattle.choices.specs.declared.Given.{Given}
 use Rattle.parts.specs.Profile.{profileAt}
 use Rattle.answering.specs.Answer.{failedPart, answerBytes}
@@ -18,24 +16,7 @@ use Rattle.deciding.specs.Decide.{decide}
 use Rattle.deciding.proofs.Cases.{Blameless}
 use Rattle.deciding.proofs.Comes.{decide-carries}
 use Rattle.deciding.proofs.Deeds.{decide-sendable}
-use Rattle.deciding.proofs.Tests.{either}
-use Rattle.pen.proofs.Groups as groups
 use Rattle.parts.proofs.Fields as parts
-
--- What Failed-AVP holds is no more than the request itself, or an example.
-holds-short : (a : List ℕ) → length a ≤ 16384 → length (failedPart (some a)) ≤ 16400
-holds-short a h = omega (arith, groups.failed-length a)
-
-failed-short : (req : List ℕ) (v : Verdict) → length req ≤ 16384 → length (failedPart (failedBy req v)) ≤ 16400
-unfolding failedBy
-failed-short req v h =
-    let n = numberOf (v .result) in
-    let t = drop (v .place) req in
-    either (λ (f : Option (List ℕ)). length (failedPart f) ≤ 16400) (ltb 0 (v .lacks))
-    (holds-short (example (v .lacks)) (omega (arith, example-length (v .lacks))))
-    (either (λ (f : Option (List ℕ)). length (failedPart f) ≤ 16400) (ltb 0 (v .place))
-    (holds-short (failedOf n t) (omega (arith, fault-length n t, length-drop (v .place) req)))
-    (omega arith))
 
 -- "answer buffer under 36,864 bytes" is refused: no answer is longer
 module _ (t file : List ℕ) (count : ℕ) (s : SoundTable t count) (v : List ℕ) (req : List ℕ) (h : 20 ≤ length req)
@@ -44,7 +25,7 @@ module _ (t file : List ℕ) (count : ℕ) (s : SoundTable t count) (v : List �
   unfolding failedBy
   given-most terms g sends light = go light
     where
-      most : length (answerBytes terms req t file v g) ≤ 3716 + length req + copiedSize (length (profileAt t file (g .profile)))
+      most : length (answerBytes terms req t file v g) ≤ 3772 + length req + copiedSize (length (profileAt t file (g .profile)))
           + length (failedPart (failedBy req (g .verdict)))
       most = answer-length t count s terms req file v g sends h e
 

@@ -2,12 +2,13 @@
 -- force.
 use Prim.Native.Nat.{ℕ}
 use mathlib.Core.List.{List}
+use mathlib.Core.Bool.{cond}
 use Rattle.reading.specs.Rules.{Seen}
 use Rattle.reading.specs.declared.Dialect.{Dialect}
+use Rattle.reading.specs.declared.Outcome.the-variants.{Experimental}
 use Rattle.reading.specs.declared.Verdict.{Verdict}
 use Rattle.requests.specs.Judged.{Judged, bad, fine}
-use Rattle.requests.specs.Request.{readIn}
-use Rattle.choices.specs.Given.{givenFault}
+use Rattle.choices.specs.Given.{blameless, givenFault}
 use Rattle.choices.specs.declared.Given.{Given}
 use Rattle.choices.specs.declared.plan.Plan.{Plan}
 use Rattle.deciding.specs.Deeds.{spentBy}
@@ -29,12 +30,17 @@ unfoldable pub performedBy : Rules → List ℕ → List ℕ → ℕ → List �
 performedBy r req t count v seen p =
     record { given = p .given; place = 0; table = r .carry req t count seen (p .deed); vectors = spentBy v (p .given .sent) (p .deed) }
 
+-- "X5011 after the missing-AVP check, before all decisions": no AVP is at fault, and nothing is altered
+abbrev pub featureUnsupported : Verdict
+featureUnsupported = blameless (Experimental 5011)
+
 unfoldable pub judgedBy : Rules → Dialect → List ℕ → List ℕ → ℕ → List ℕ → Judged → Decision
 judgedBy r d req t count v (bad f) = faulted t v f
-judgedBy r d req t count v (fine seen) = performedBy r req t count v seen (r .plan d req t count v seen)
+judgedBy r d req t count v (fine seen) =
+    cond (r .beyond (d .terms) req) (faulted t v featureUnsupported) (performedBy r req t count v seen (r .plan d req t count v seen))
 
 unfoldable pub decideBy : Rules → Dialect → List ℕ → List ℕ → ℕ → List ℕ → Decision
-decideBy r d req t count v = judgedBy r d req t count v (readIn d req)
+decideBy r d req t count v = judgedBy r d req t count v (r .read d req)
 
 abbrev pub decide : Dialect → List ℕ → List ℕ → ℕ → List ℕ → Decision
 decide = decideBy inForce

@@ -6,17 +6,20 @@ use answering::Ground;
 use choices::giving;
 use reading::Outcome;
 use reading::Verdict;
+use reading::experimental;
 use reading::kinds;
 use requests::Walked;
+ghost use mathlib.Core.Bool.{false};
 ghost use mathlib.Core.Path.{_≡_};
 ghost use Prim.Native.Nat.{_≤_};
 ghost use Rattle.table.specs.SoundTable.{SoundTable};
 ghost use Rattle.vectors.specs.VectorFile.{SoundVectors};
 ghost use Rattle.reading.specs.Places.{seenOf};
-ghost use Rattle.requests.specs.Judged.{bad, fine};
+ghost use Rattle.requests.specs.Features.{beyondSet, wantedOf};
+ghost use Rattle.requests.specs.Judged.{fine};
 ghost use Rattle.requests.specs.Request.{readIn};
-ghost use Rattle.deciding.specs.Decide.{decide};
-ghost use Rattle.deciding.specs.Passed.{Passed};
+ghost use Rattle.deciding.specs.Decide.{faulted, decide};
+ghost use Rattle.refusals.specs.Passed.{Passed};
 ghost use Rattle.deciding.specs.Answers.{Tells};
 
 // What is said of an answer: its length, and the place of the AVP at fault, 0 where none is; the request's command, the answer's result, and how many
@@ -29,7 +32,7 @@ pub struct Told {
     pub altered: u32,
 }
 
-// The answer to a request whose reading found a fault: nothing is altered.
+// The answer to a request that comes to a fault: nothing is altered.
 fn answer_fault(
     out: &mut [u8],
     req: &[u8],
@@ -40,7 +43,8 @@ fn answer_fault(
     f: Verdict,
 ) -> Told
     requires { ⌜ Passed (now req) (now out) × SoundTable (now t) (ground .count) × SoundVectors (now v)
-        × (readIn (ground .dialect) (now req) ≡ bad f) × (f .place ≤ 16384) ⌝ }
+        × (ground .wanted ≡ wantedOf (ground .dialect .terms) (now req))
+        × (decide (ground .dialect) (now req) (now t) (ground .count) (now v) ≡ faulted (now t) (now v) f) × (f .place ≤ 16384) ⌝ }
     ensures { λ r. ⌜ Tells (ground .dialect) (now (req .entry)) (now (t .entry)) (ground .count) (now (file .entry)) (now (v .entry))
         (now (out .entry)) (now (out .exit)) r
         × (now (t .entry) ≡ decide (ground .dialect) (now (req .entry)) (now (t .entry)) (ground .count) (now (v .entry)) .table)
@@ -59,7 +63,8 @@ fn answer_fault(
     }
 }
 
-// The answer to a request that was read: written from the table and the vectors as they came, before the plan is carried out.
+// The answer to a request that was read and asks for nothing unsupported: written from the table and the vectors as they came, before the plan is
+// carried out.
 fn answer_read(
     out: &mut [u8],
     req: &[u8],
@@ -70,6 +75,7 @@ fn answer_read(
     found: [usize; kinds::KINDS],
 ) -> Told
     requires { ⌜ Passed (now req) (now out) × SoundTable (now t) (ground .count) × SoundVectors (now v)
+        × (ground .wanted ≡ wantedOf (ground .dialect .terms) (now req)) × (beyondSet (ground .dialect .terms) (now req) ≡ false)
         × (readIn (ground .dialect) (now req) ≡ fine (seenOf (now req) found)) ⌝ }
     ensures { λ r. ⌜ Tells (ground .dialect) (now (req .entry)) (now (t .entry)) (ground .count) (now (file .entry)) (now (v .entry))
         (now (out .entry)) (now (out .exit)) r
@@ -92,6 +98,36 @@ fn answer_read(
     }
 }
 
+// The answer to a request that was read: "X5011 after the missing-AVP check, before all decisions".
+fn answer_fine(
+    out: &mut [u8],
+    req: &[u8],
+    t: &mut [u8],
+    file: &[u8],
+    v: &mut [u8],
+    ground: Ground,
+    found: [usize; kinds::KINDS],
+) -> Told
+    requires { ⌜ Passed (now req) (now out) × SoundTable (now t) (ground .count) × SoundVectors (now v)
+        × (ground .wanted ≡ wantedOf (ground .dialect .terms) (now req))
+        × (readIn (ground .dialect) (now req) ≡ fine (seenOf (now req) found)) ⌝ }
+    ensures { λ r. ⌜ Tells (ground .dialect) (now (req .entry)) (now (t .entry)) (ground .count) (now (file .entry)) (now (v .entry))
+        (now (out .entry)) (now (out .exit)) r
+        × (now (t .exit) ≡ decide (ground .dialect) (now (req .entry)) (now (t .entry)) (ground .count) (now (v .entry)) .table)
+        × (now (v .exit) ≡ decide (ground .dialect) (now (req .entry)) (now (t .entry)) (ground .count) (now (v .entry)) .vectors) ⌝ }
+{
+    let wanted = ground.wanted;
+    if wanted.beyond {
+        let f = Verdict {
+            result: Outcome::Experimental(experimental::FEATURE_UNSUPPORTED),
+            place: 0,
+            lacks: 0,
+        };
+        return answer_fault(out, req, t, file, v, ground, f);
+    }
+    answer_read(out, req, t, file, v, ground, found)
+}
+
 // One request over a sound table and a sound vector file.
 pub fn answer_sound(
     out: &mut [u8],
@@ -101,7 +137,8 @@ pub fn answer_sound(
     v: &mut [u8],
     ground: Ground,
 ) -> Told
-    requires { ⌜ Passed (now req) (now out) × SoundTable (now t) (ground .count) × SoundVectors (now v) ⌝ }
+    requires { ⌜ Passed (now req) (now out) × SoundTable (now t) (ground .count) × SoundVectors (now v)
+        × (ground .wanted ≡ wantedOf (ground .dialect .terms) (now req)) ⌝ }
     ensures { λ r. ⌜ Tells (ground .dialect) (now (req .entry)) (now (t .entry)) (ground .count) (now (file .entry)) (now (v .entry))
         (now (out .entry)) (now (out .exit)) r
         × (now (t .exit) ≡ decide (ground .dialect) (now (req .entry)) (now (t .entry)) (ground .count) (now (v .entry)) .table)
@@ -111,7 +148,7 @@ pub fn answer_sound(
     let mut found = [0; kinds::KINDS];
     let w = requests::read_in(req, dialect, &mut found);
     match w {
-        Walked::Read => answer_read(out, req, t, file, v, ground, found),
+        Walked::Read => answer_fine(out, req, t, file, v, ground, found),
         Walked::Fault(f) => answer_fault(out, req, t, file, v, ground, f),
     }
 }

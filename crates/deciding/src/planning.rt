@@ -96,7 +96,7 @@ fn plan_mar(req: &[u8], t: &[u8], count: usize, v: &[u8], found: [usize; kinds::
         v,
         places::data_of(req, found, kinds::USER_NAME),
         places::data_of(req, found, kinds::PUBLIC_IDENTITY),
-        places::scheme_of(req, found),
+        places::member_of(req, found, kinds::AUTH_DATA_ITEM),
         places::value_of(req, found, kinds::NUMBER_AUTH_ITEMS),
     )
 }

@@ -20,8 +20,8 @@ use Rattle.reading.specs.Kinds.{userName, publicIdentity, visitedNetwork, autho
 use Rattle.reading.specs.Rules.{Seen}
 use Rattle.reading.specs.declared.Outcome.{Outcome}
 use Rattle.reading.specs.declared.Outcome.the-variants.{Base, Experimental}
-use Rattle.requests.specs.Judged.{Judged, bad, fine}
-use Rattle.requests.specs.Request.{readIn, dataSeen, valueSeen}
+use Rattle.requests.specs.Judged.{fine}
+use Rattle.requests.specs.Request.{dataSeen, valueSeen}
 use Rattle.choices.specs.Choices.{authorization}
 use Rattle.choices.specs.declared.choice.Asked.{Asked}
 use Rattle.questions.specs.Authorization.{askedAt, askedOf, authorizeFound, authorize}
@@ -31,8 +31,9 @@ use Rattle.deciding.specs.Decide.{performedBy, judgedBy, decideBy}
 use Rattle.calling.specs.Lent.{Lent, dialectIn}
 use Rattle.calling.specs.Serve.{checkOf, checkValue, decision, decided, resultOf}
 use Rattle.older_rules.proofs.Sets.{AllBarred, barred-says, barred-holds}
+use Rattle.demands.specs.Call.{Decides}
 use Rattle.demands.specs.Sets.{Shares, BarredAlone, Stands, Belongs, Barred}
-use Rattle.demands.proofs.Results.{read-other, barred-asked, asked-unknown, asked-apart, asked-barred}
+use Rattle.demands.proofs.Results.{decided-upon, barred-asked, asked-unknown, asked-apart, asked-barred}
 
 -- The two ways to say that records share a set.
 pub shares-says : (t : List ℕ) (k j : ℕ) → sameSet (blockOf t k) (blockOf t j) ≡ true → Shares t k j
@@ -85,7 +86,7 @@ module _ (x : Lent) (count : ℕ) (sound : checkOf x ≡ Sound count) (uar : com
   abbrev t : List ℕ
   t = x .table
 
-  module _ (seen : Seen) (read : readIn (dialectIn x) (x .request) ≡ fine seen) where
+  module _ (seen : Seen) (read : Decides (dialectIn x) (x .request) seen) where
     abbrev user : List ℕ
     user = dataSeen seen userName
 
@@ -100,7 +101,7 @@ module _ (x : Lent) (count : ℕ) (sound : checkOf x ≡ Sound count) (uar : com
 
     decided-is : decision x count .given .verdict .result ≡ resultAt (findPublic t count public)
     unfolding decideBy judgedBy performedBy planRead uarPlan authorize authorizeFound
-    decided-is = rw (read, uar)
+    decided-is = rw (read .read, read .inside, uar)
 
     result-is : resultOf x ≡ resultAt (findPublic t count public)
     result-is = result-counted x count sound ∙ decided-is
@@ -141,12 +142,10 @@ module _ (x : Lent) (count : ℕ) (sound : checkOf x ≡ Sound count) (uar : com
         ∙ asked-apart (asked (At k)) _ t count user k (belongs-known t count j user b) (same-no _ _ n)
 
   pub barred-only : resultOf x ≡ Base 5003 → Barred x count
-  unfolding decideBy judgedBy isOne
-  barred-only r = go (readIn (dialectIn x) (x .request)) refl
-    where
-      go : (j : Judged) → readIn (dialectIn x) (x .request) ≡ j → Barred x count
-      go (bad v) e = absurd (read-other (dialectIn x) (x .request) v (Base 5003) refl e (sym (result-counted x count sound ∙ rw e) ∙ r))
-      go (fine seen) e = found-barred seen e (findPublic t count (dataSeen seen publicIdentity)) refl (sym (result-is seen e) ∙ r)
+  unfolding isOne
+  barred-only r =
+      let u = decided-upon (dialectIn x) (x .request) t count (x .vectors) 5003 refl (sym (result-counted x count sound) ∙ r) in
+      found-barred (u .seen) (u .decides) (findPublic t count (dataSeen (u .seen) publicIdentity)) refl (sym (result-is (u .seen) (u .decides)) ∙ r)
 
   pub barred-given : Barred x count → resultOf x ≡ Base 5003
   unfolding askedOf askedAt privateAt
@@ -157,28 +156,28 @@ module _ (x : Lent) (count : ℕ) (sound : checkOf x ≡ Sound count) (uar : com
       (belongs-known t count (b .block) _ (record { from = b .public .from; to = b .public .to; name = b .private }))
       (same-yes _ _ (b .private)) (alone-holds t count (b .block) (b .alone))
 
-  pub barred-unknown : (seen : Seen) → readIn (dialectIn x) (x .request) ≡ fine seen
+  pub barred-unknown : (seen : Seen) → Decides (dialectIn x) (x .request) seen
       → ((k : ℕ) → Stands t count k (dataSeen seen publicIdentity) → ⊥) ⊎ ((k : ℕ) → Belongs t count k (dataSeen seen userName) → ⊥)
       → resultOf x ≡ Experimental 5001
   barred-unknown = unknown
 
-  pub barred-apart : (seen : Seen) → readIn (dialectIn x) (x .request) ≡ fine seen → (k j : ℕ) → Stands t count k (dataSeen seen publicIdentity)
+  pub barred-apart : (seen : Seen) → Decides (dialectIn x) (x .request) seen → (k j : ℕ) → Stands t count k (dataSeen seen publicIdentity)
       → Belongs t count j (dataSeen seen userName) → privateAt t k ≢ dataSeen seen userName → resultOf x ≡ Experimental 5002
   barred-apart = apart
 
   -- every record of the set is barred then, whichever reading found the identity
-  pub free-goes : (b : Barred x count) (seen : Seen) → readIn (dialectIn x) (x .request) ≡ fine seen → (k j : ℕ)
+  pub free-goes : (b : Barred x count) (seen : Seen) → Decides (dialectIn x) (x .request) seen → (k j : ℕ)
       → Stands t count k (dataSeen seen publicIdentity)
       → 1 ≤ j → j ≤ count → Shares t k j → barred (bitsOf (blockOf t j)) ≡ true
   free-goes b seen read k j s from to h =
-      let e : fine seen ≡ fine (b .seen) = sym read ∙ b .read in
+      let e : fine seen ≡ fine (b .seen) = sym (read .read) ∙ b .read .read in
       let same-seen : seen ≡ b .seen = cc in
       let name : publicAt t k ≡ publicAt t (b .block) = s .name ∙ ap (λ (l : Seen). dataSeen l publicIdentity) same-seen ∙ sym (b .public .name) in
       let q : k ≡ b .block = one-block t count (lent-sound x count sound) k (b .block) (s .from) (b .public .from) (s .to) (b .public .to) name in
       b .alone .others j from to (subst (λ (i : ℕ). Shares t i j) q h)
 
   -- and where one is not, the record is not barred alone: with the User-Name in it, the answer carries what it does where nothing is barred
-  pub free-given : (seen : Seen) → readIn (dialectIn x) (x .request) ≡ fine seen → (k j : ℕ) → Stands t count k (dataSeen seen publicIdentity)
+  pub free-given : (seen : Seen) → Decides (dialectIn x) (x .request) seen → (k j : ℕ) → Stands t count k (dataSeen seen publicIdentity)
       → 1 ≤ j → j ≤ count → Shares t k j → barred (bitsOf (blockOf t j)) ≡ false → privateAt t k ≡ dataSeen seen userName
       → decided x .given
       ≡ carried t count (dataSeen seen userName) k
@@ -187,7 +186,14 @@ module _ (x : Lent) (count : ℕ) (sound : checkOf x ≡ Sound count) (uar : com
   unfolding decideBy judgedBy performedBy planRead uarPlan authorize authorizeFound askedOf
   free-given seen read k j s from to h free p =
       ap (λ (c : Checked). decision x (checkValue c) .given) sound
-      ∙ rw (read, uar, stands-found t count (lent-sound x count sound) k _ s, belongs-known t count k _ (record { from = s .from; to = s .to; name = p }), not-alone)
+      ∙ rw (
+        read .read,
+        read .inside,
+        uar,
+        stands-found t count (lent-sound x count sound) k _ s,
+        belongs-known t count k _ (record { from = s .from; to = s .to; name = p }),
+        not-alone,
+      )
     where
       not-alone : barredAlone t count (blockOf t k) ≡ false
       not-alone = go (barredAlone t count (blockOf t k)) refl

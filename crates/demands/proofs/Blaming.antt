@@ -8,6 +8,7 @@ use Rattle.items.specs.Items.{sentBytes}
 use Rattle.reading.specs.Rules.{Seen}
 use Rattle.reading.specs.Verdicts.{faultAt}
 use Rattle.reading.specs.declared.Outcome.the-variants.{Base, Experimental}
+use Rattle.requests.specs.Features.{beyondSet}
 use Rattle.requests.specs.Judged.{Judged, bad, fine}
 use Rattle.reading.specs.declared.Dialect.{Dialect}
 use Rattle.reading.specs.declared.Terms.{Terms}
@@ -18,10 +19,11 @@ use Rattle.reply.specs.Pieces.{identityBytes, nameBytes, dataBytes, givenBytes}
 use Rattle.answering.specs.Answer.{endBytes, restBytes, bodyBytes, answerBytes}
 use Rattle.deciding.specs.Rules.{inForce}
 use Rattle.deciding.specs.Decide.{Decision, faulted, performedBy, judgedBy, decideBy, decide}
+use Rattle.deciding.proofs.Tests.{either}
 use Rattle.calling.specs.Call.{Answered}
 use Rattle.calling.specs.Lent.{Lent, tableOnly, dialectIn}
 use Rattle.ndushavire.specs.Reads.{callPlace}
-use Rattle.calling.specs.Serve.{Served, checkOf, answered, serveTable, overArea, serve, checkValue, resultOf}
+use Rattle.calling.specs.Serve.{Served, checkOf, answered, answeredBy, serveTable, overArea, serve, checkValue, resultOf}
 use Rattle.calling.proofs.Areas.{put-same}
 use Rattle.calling.proofs.Calls.{size-most, length-even}
 use Rattle.demands.specs.Call.{turnedAway}
@@ -64,7 +66,7 @@ fault-decides d req n place e t count v = rw e
 
 pub fault-answered : (x : Lent) (n place : ℕ) (shown : List ℕ) → failedBy (x .request) (faultAt n place) ≡ some shown
     → readIn (dialectIn x) (x .request) ≡ bad (faultAt n place) → turnedAway x ≡ false → serveTable x ≡ blamingTable x n shown place
-unfolding answered
+unfolding answeredBy
 fault-answered x n place shown is e away =
     let count = checkValue (checkOf x) in
     answer-is x away
@@ -82,14 +84,14 @@ decide-place d req t count v = go (readIn d req)
   where
     go : (j : Judged) → judgedBy inForce d req t count v j .place ≡ placeOf j
     go (bad f) = refl
-    go (fine seen) = refl
+    go (fine seen) = either (λ (e : Decision). e .place ≡ 0) (beyondSet (d .terms) req) refl refl
 
 module _ (x : Lent) where
   abbrev place : ℕ
   place = callPlace (serveTable x .call)
 
   place-read : turnedAway x ≡ false → place ≡ placeOf (readIn (dialectIn x) (x .request))
-  unfolding answered
+  unfolding answeredBy
   place-read e = rw (answer-is x e) (decide-place (dialectIn x) (x .request) (x .table) (checkValue (checkOf x)) (x .vectors))
 
   pub blames-answer : (p : ℕ) (b : Blames x p) → serveTable x ≡ blamingTable x (b .result) (failedOf (b .result) (drop p (x .request))) p

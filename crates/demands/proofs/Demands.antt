@@ -17,7 +17,7 @@ use Rattle.diameter.specs.Message.{commandOf}
 use Rattle.rewrite.specs.Keeps.{alterable}
 use Rattle.calling.specs.Call.{Answer, Answered, Refused}
 use Rattle.calling.specs.Lent.{Lent, asking, holding, tableOnly, dialectIn}
-use Rattle.calling.specs.Serve.{SameCall, wrongSize, wrongLength, checkOf, trials, answered, decision, serveTable, overArea, serve}
+use Rattle.calling.specs.Serve.{SameCall, wrongSize, wrongLength, checkOf, trials, answeredBy, decision, serveTable, overArea, serve}
 use Rattle.calling.proofs.Areas.{served-in, served-length, served-rest, served-stays, serve-exact, alike-call, alike-table, check-in}
 use Rattle.ndushavire.specs.Word.{callWord}
 use Rattle.ndushavire.specs.Reads.{callNumber, callValue, callIn, Reads, ReadsCheck, ReadsMove, ReadsTake}
@@ -104,7 +104,7 @@ module _ (a : Lent) where
   pub demand-1 : Exactly (trials (tableOnly a)) (callNumber (serve a .call))
   demand-1 = refusals (tableOnly a)
 
-  pub demand-1-number : callNumber (serve a .call) ≤ 12
+  pub demand-1-number : (callNumber (serve a .call) ≤ 6) ⊎ (callNumber (serve a .call) ≡ 12)
   demand-1-number = number-most (tableOnly a)
 
   -- Refusals 12, 1 to 4 and 6 return 0 besides, refusal 5 the first bad block, and an answer returns its length.
@@ -146,7 +146,7 @@ module _ (a : Lent) (count : ℕ) (sound : checkArea (a .table) (length (a .prof
       × (tableIn (serve a .table) ≡ decision (tableOnly a) count .table)
       × (serve a .vectors ≡ decision (tableOnly a) count .vectors)
       × (serve a .buffer ≡ over (answerTo (tableOnly a) count) (a .buffer))
-  unfolding answered
+  unfolding answeredBy
   demand-2 e = let s = answered-is (tableOnly a) count of-table e in (rw s, served-in a ∙ rw s, rw s, rw s)
 
   -- A result that is no success leaves the whole area and the vectors as they were.

@@ -59,4 +59,4 @@ module _ (dialect : Dialect) (req t : List ℕ) (count : ℕ) (v : List ℕ) whe
     plan-does p (challenges k x) = inr (altered _ refl (inr (x .command)) (x .writes))
 
   pub decide-does : Does (decide dialect req t count v)
-  decide-does = decide-by dialect req t count v Does (λ f e b. inl (refl, refl)) plan-does
+  decide-does = decide-by dialect req t count v Does (λ f b. inl (refl, refl)) plan-does

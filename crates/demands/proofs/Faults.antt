@@ -3,7 +3,7 @@ use Rattle.octets.specs.Standard.{ℕ, zero, suc, _+_, _%_, _≤_, _<_, List, [
 use Rattle.octets.specs.Standard.{refl, sym, ap, _∙_, _⊎_, inl, inr, _≢_, arith, length, getD, take, drop, set, length-drop, drop-drop}
 use Rattle.octets.specs.Standard.{length-take-le, eqb, leb, eqb-true, eqb-false}
 use Rattle.diameter.specs.Avp.{padded, avpHead, avpFlags, avpLen, dataOf, valueOf, reserved, marked, sound}
-use Rattle.diameter.specs.Walk.{Walk, avp, walk}
+use Rattle.diameter.specs.Walk.{Walk, ended, faulty, avp, walk}
 use Rattle.diameter.specs.AvpAt.{present, avpOf, avpAt}
 use Rattle.diameter.specs.Message.{bodyOf}
 use Rattle.diameter.proofs.Walks.{sound-says, padded-least, walk-nil, walk-sound, walk-faulty}
@@ -19,13 +19,15 @@ use Rattle.reading.specs.declared.Outcome.the-variants.{Base}
 use Rattle.reading.specs.declared.Ruled.{Ruled}
 use Rattle.reading.specs.declared.Ruled.the-variants.{Taken, Skipped, Fault}
 use Rattle.reading.specs.declared.Use.{Use}
-use Rattle.reading.specs.declared.Use.the-variants.{Unknown, Unnamed, Needed, Optional, Repeated}
+use Rattle.reading.specs.declared.Use.the-variants.{Unknown, Unnamed, Needed, Optional, Repeated, Several}
 use Rattle.reading.specs.declared.Verdict.{Verdict}
-use Rattle.requests.specs.Judged.{Judged, bad, fine, nothing, judge}
+use Rattle.requests.specs.Features.{beyondSet}
+use Rattle.requests.specs.Judged.{Judged, bad, fine, nothing, onRule, judge}
 use Rattle.requests.specs.Request.{headerFault, firstOther, missing, complete, readWalk, readIn}
 use Rattle.requests.proofs.Faulting.{read-placed}
 use Rattle.deciding.specs.Rules.{inForce}
-use Rattle.deciding.specs.Decide.{performedBy, judgedBy, decideBy, decide}
+use Rattle.deciding.specs.Decide.{Decision, performedBy, judgedBy, decideBy, decide}
+use Rattle.deciding.proofs.Tests.{either}
 use Rattle.demands.specs.Frame.{succeeds}
 use Rattle.demands.specs.Place.{behindAt, ReadingReaches, first, pastTaken, pastSkipped, Breaks, lengthFault, ruleFault, OfRules, AtFault}
 
@@ -66,7 +68,8 @@ module _ (d : Dialect) (req : List ℕ) where
   unfolding judge
   judge-taken at seen s e = rw (avp-walked req at s, e)
 
-  pub judge-skipped : (at : ℕ) (seen : Seen) → sound (drop at req) ≡ true → rule d seen (avpAt req at) ≡ Skipped → judgeAt at seen ≡ judgeAt (behindAt req at) seen
+  pub judge-skipped : (at : ℕ) (seen : Seen) → sound (drop at req) ≡ true → rule d seen (avpAt req at) ≡ Skipped
+      → judgeAt at seen ≡ judgeAt (behindAt req at) seen
   unfolding judge
   judge-skipped at seen s e = rw (avp-walked req at s, e)
 
@@ -75,10 +78,30 @@ module _ (d : Dialect) (req : List ℕ) where
   judge-breaks at seen n (lengthFault h s) = rw (walk-faulty (drop at req) s (rw length-drop (omega arith)))
   judge-breaks at seen n (ruleFault m s e) = rw (avp-walked req at s, e)
 
-  judge-reaches : {at : ℕ} {seen : Seen} → ReadingReaches d req at seen → judgeAt 20 nothing ≡ judgeAt at seen
+  pub judge-reaches : {at : ℕ} {seen : Seen} → ReadingReaches d req at seen → judgeAt 20 nothing ≡ judgeAt at seen
   judge-reaches first = refl
   judge-reaches (pastTaken at seen r s e) = judge-reaches r ∙ judge-taken at seen s e
   judge-reaches (pastSkipped at seen r s e) = judge-reaches r ∙ judge-skipped at seen s e
+
+  -- A fault that is found from a place on stands there or behind it, and so an AVP that reading has passed is not at fault.
+  judge-from : (at : ℕ) (w : Walk) (seen : Seen) (v : Verdict) → judge d at w seen ≡ bad v → at ≤ v .place
+  unfolding judge
+  judge-from at ended seen v e = fine-bad seen v e
+  judge-from at (faulty t) seen v e = let q : v .place ≡ at = cc in omega arith
+  judge-from at (avp a w) seen v e = go (rule d seen a) e (λ s. judge-from (at + padded (length a)) w s v)
+    where
+      go : (r : Ruled) → onRule r seen a at (judge d (at + padded (length a)) w) ≡ bad v
+          → ((s : Seen) → judge d (at + padded (length a)) w s ≡ bad v → at + padded (length a) ≤ v .place) → at ≤ v .place
+      go Taken f rest = omega (arith, rest _ f)
+      go Skipped f rest = omega (arith, rest seen f)
+      go (Fault n) f rest = let q : v .place ≡ at = cc in omega arith
+
+  pub taken-passes : (at : ℕ) (seen : Seen) → ReadingReaches d req at seen → sound (drop at req) ≡ true → rule d seen (avpAt req at) ≡ Taken
+      → (n place : ℕ) → AtFault d req n place → place ≢ at
+  taken-passes at seen r s e n place f h =
+      let j : judgeAt (behindAt req at) (set seen (kindOf (avpAt req at)) (some (avpAt req at))) ≡ bad (faultAt n place)
+      = sym (judge-reaches r ∙ judge-taken at seen s e) ∙ judge-reaches (f .reached) ∙ judge-breaks place (f .seen) n (f .breaks) in
+      omega (arith, judge-from (behindAt req at) _ _ _ j, avp-least req at s)
 
   -- A fault that `judge` finds is such an AVP's.
   pub record Finds (v : Verdict) : Type 0 where
@@ -181,7 +204,7 @@ read-fault d req v n e = go (eqb (headerFault d req) 0) refl e
     go false h f = nowhere d req v (faultOf (headerFault d req)) refl n f
 
 -- Where it stands: behind the header, within the request, at a multiple of 4.
-reaches-least : (d : Dialect) (req : List ℕ) {at : ℕ} {seen : Seen} → ReadingReaches d req at seen → (20 ≤ at) × (at % 4 ≡ 0)
+pub reaches-least : (d : Dialect) (req : List ℕ) {at : ℕ} {seen : Seen} → ReadingReaches d req at seen → (20 ≤ at) × (at % 4 ≡ 0)
 unfolding padded
 reaches-least d req first = (omega arith, refl)
 reaches-least d req (pastTaken at seen r s e) = let h = reaches-least d req r in (omega (arith, h .0), omega (arith, h .1))
@@ -261,6 +284,7 @@ rule-number d seen a n e =
     used Needed x f = once x f
     used Optional x f = once x f
     used Repeated x f = holds (content-number d (rowOf (kindOf a) .content) a) (eqb c 0) refl f
+    used Several x f = holds (content-number d (rowOf (kindOf a) .content) a) (eqb c 0) refl f
 
     flags : (x : Bool) → cond (not x) (Fault 3009) (ofUse (useOf d a) (present (getD seen (kindOf a) none)) (avpFlags a) c) ≡ Fault n → OfRules n
     flags true f = used (useOf d a) (present (getD seen (kindOf a) none)) f
@@ -296,4 +320,4 @@ decide-within dialect req t count v h = go (readIn dialect req) refl
   where
     go : (j : Judged) → readIn dialect req ≡ j → judgedBy inForce dialect req t count v j .place ≤ length req
     go (bad f) e = read-placed dialect req f h e .within
-    go (fine seen) e = omega arith
+    go (fine seen) e = either (λ (d : Decision). d .place ≤ length req) (beyondSet (dialect .terms) req) (omega arith) (omega arith)

@@ -17,7 +17,7 @@ use Rattle.diameter.specs.Message.{commandOf}
 use Rattle.blocks.specs.Changed.{isOne}
 use Rattle.deciding.specs.Decide.{Decision}
 use Rattle.calling.specs.Lent.{Lent, dialectIn}
-use Rattle.calling.specs.Serve.{checkOf, answered, decision, serveTable, checkValue}
+use Rattle.calling.specs.Serve.{checkOf, answeredBy, decision, serveTable, checkValue}
 use Rattle.demands.specs.Call.{turnedAway}
 use Rattle.demands.specs.Frame.{succeeds, subscriptionOf}
 use Rattle.calling.proofs.Kept.{taken, table-checked}
@@ -73,7 +73,7 @@ module _ (x : Lent) (count : ℕ) (sound : checkOf x ≡ Sound count) where
 
   after-call : (P : List ℕ → List ℕ → Type 0) → P t v → (Wrote → P (decision x count .table) (decision x count .vectors))
       → P (serveTable x .table) (serveTable x .vectors)
-  unfolding answered
+  unfolding answeredBy
   after-call P p q = go (turnedAway x) refl
     where
       decided : Does (dialectIn x) (x .request) t count v (decision x count) → P (decision x count .table) (decision x count .vectors)

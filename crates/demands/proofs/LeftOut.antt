@@ -16,7 +16,7 @@ use Rattle.reading.specs.declared.Verdict.{Verdict}
 use Rattle.requests.specs.Judged.{Judged, bad, fine, nothing, onRule, judge}
 use Rattle.requests.specs.Request.{headerFault, missingFrom, missing, complete, readWalk, identities}
 use Rattle.answering.specs.Answer.{proxy, proxies}
-use Rattle.demands.proofs.Messages.{readBody}
+use Rattle.demands.proofs.Messages.{readBodyBy, readBody}
 
 fine-bad : {A : Type 0} (seen : Seen) (v : Verdict) → bad v ≡ fine seen → A
 fine-bad seen v e = let z : _≡_ {A = ℕ} 0 1 = cc in absurd (omega arith)
@@ -129,7 +129,7 @@ module _ (d : Dialect) (sar : d .command ≡ 301) where
 module _ (d : Dialect) (sar : d .command ≡ 301) (head one : List ℕ) (identity : kindOf one ≡ publicIdentity) (w : Walk) where
   pub read-left : (q : List ℕ) (qs : List (List ℕ)) (u : Seen) → readBody d head (glue (q ∷ qs) (avp one w)) ≡ fine u
       → Follows (readBody d head (glue (q ∷ qs) w)) u
-  unfolding readBody readWalk glue
+  unfolding readBody readBodyBy readWalk glue
   read-left q qs u = go (eqb (headerFault d head) 0) (not (eqb (kindOf q) sessionId))
     where
       go : (x y : Bool)
@@ -142,7 +142,7 @@ module _ (d : Dialect) (sar : d .command ≡ 301) (head one : List ℕ) (identit
           complete-beside d sar _ _ u (λ v f. judge-left d sar one identity w (q ∷ qs) 20 20 nothing nothing v refl f) e
 
   pub read-first : (u : Seen) → readBody d head (avp one w) ≡ fine u → ⊥
-  unfolding readBody readWalk
+  unfolding readBody readBodyBy readWalk
   read-first u e = go (eqb (headerFault d head) 0) (rw identity at e)
     where
       go : (x : Bool) → cond x (bad (lackOf sessionId)) (bad (faultOf (headerFault d head))) ≡ fine u → ⊥

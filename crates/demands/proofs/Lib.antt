@@ -1,13 +1,16 @@
 pub mod Alike
+pub mod AnyFeatures
 pub mod Areas
 pub mod Barring
 pub mod Blaming
 pub mod Cuts
 pub mod Demands
 pub mod Disagreeing
+pub mod Dialects
 pub mod Editions
 pub mod Effects
 pub mod Faults
+pub mod Features
 pub mod Firm
 pub mod Fitting
 pub mod Frame
@@ -18,10 +21,12 @@ pub mod Members
 pub mod Messages
 pub mod Moved
 pub mod NamedTwice
+pub mod PeerCalls
 pub mod Peers
 pub mod Place
 pub mod Refusals
 pub mod Results
+pub mod Rows
 pub mod Sets
 pub mod TakingOver
 pub mod Together
@@ -30,4 +35,6 @@ pub mod TypeRead
 pub mod Unable
 pub mod UnableMar
 pub mod UnableSar
+pub mod Undecided
 pub mod Unreachable
+pub mod Wanting

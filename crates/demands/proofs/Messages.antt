@@ -4,24 +4,29 @@ use Rattle.octets.specs.Standard.{length, getD, set, take, drop, length-set, le
 use Rattle.octets.specs.Standard.{drop-append-le, drop-set-lt, getD-set-other, eqb, eq-eqb, ne-eqb, le-ltb}
 use Rattle.octets.specs.Number.{be24At, putBe24}
 use Rattle.octets.proofs.Numbers.{be24-alike, be32-alike, field-put}
-use Rattle.diameter.specs.Walk.{Walk, walk}
+use Rattle.diameter.specs.Walk.{Walk, walk, someAvp}
 use Rattle.reading.specs.declared.Dialect.{Dialect}
 use Rattle.reading.specs.declared.Terms.{Terms}
+use Rattle.reading.specs.Features.{asksBeyond}
+use Rattle.requests.specs.Features.{beyondSet, calledIn, listCalled}
 use Rattle.requests.specs.Judged.{Judged, bad}
+use Rattle.requests.proofs.Kept.{read-command}
 use Rattle.diameter.specs.Message.{commandOf, bodyOf}
 use Rattle.reading.specs.Verdicts.{faultOf}
-use Rattle.requests.specs.Request.{dialectOf, headerFault, readWalk, readIn, identities, sessionOf}
+use Rattle.requests.specs.Request.{dialectOf, spoken, headerFaultBy, headerFault, readWalk, readIn, identities, sessionOf}
+use Rattle.choices.specs.Given.{givenFault}
 use Rattle.choices.specs.declared.Given.{Given}
 use Rattle.deciding.specs.Rules.{inForce}
-use Rattle.deciding.specs.Decide.{Decision, performedBy, judgedBy, decideBy, decide}
-use Rattle.reply.specs.Pieces.{topBytes, identityBytes, nameBytes, dataBytes, givenBytes, headerBytes}
+use Rattle.deciding.proofs.Tests.{each}
+use Rattle.deciding.specs.Decide.{Decision, featureUnsupported, performedBy, judgedBy, decideBy, decide}
+use Rattle.reply.specs.Pieces.{listBytes, topBytes, identityBytes, nameBytes, dataBytes, givenBytes, headerBytes}
 use Rattle.answering.specs.Answer.{proxies, endBytes, restBytes, bodyBytes, answerBytes}
 use Rattle.calling.specs.Lent.{Lent, asking}
-use Rattle.calling.specs.Serve.{wrongSize, wrongLength, noRequest, checkOf, answered, decision, serveTable, checkValue}
+use Rattle.calling.specs.Serve.{wrongSize, wrongLength, noRequest, checkOf, answered, answeredBy, decision, serveTable, checkValue}
 use Rattle.demands.specs.Call.{turnedAway}
 use Rattle.demands.specs.Insertion.{message, later, placed}
 use Rattle.demands.proofs.Refusals.{refused-alike, refused-placed, answer-is}
-use Rattle.demands.proofs.Alike.{SameGiven, SameDecision, fault-same, plan-same}
+use Rattle.demands.proofs.Alike.{SameGiven, SameDecision, fault-same, blameless-same, plan-same}
 use Rattle.demands.proofs.Moved.{Moved, faults, same}
 
 -- a header with another length field
@@ -75,14 +80,17 @@ module _ (head : List ℕ) (twenty : length head ≡ 20) (body : List ℕ) where
   pub message-dialect : (terms : Terms) → dialectOf terms (message head body) ≡ dialectOf terms head
   message-dialect terms = rw message-command
 
-  pub message-fault : (dialect : Dialect) → headerFault dialect (message head body) ≡ headerFault dialect head
-  unfolding headerFault
-  message-fault dialect =
+  pub message-fault-by : (has : Bool) (dialect : Dialect) → headerFaultBy has dialect (message head body) ≡ headerFaultBy has dialect head
+  message-fault-by has dialect =
       rw (
         message-at 0 (omega arith) (omega arith) (omega arith) (omega arith),
         message-flags,
         be32-alike (message head body) head 8 8 (λ j l. message-at (8 + j) (omega arith) (omega arith) (omega arith) (omega arith)),
       )
+
+  pub message-fault : (dialect : Dialect) → headerFault dialect (message head body) ≡ headerFault dialect head
+  unfolding headerFault
+  message-fault dialect = message-fault-by (spoken dialect) dialect
 
   pub message-rest : take 15 (drop 5 (message head body)) ≡ take 15 (drop 5 head)
   unfolding message
@@ -100,12 +108,15 @@ module _ (head : List ℕ) (twenty : length head ≡ 20) (body : List ℕ) where
   pub message-field : n < 16777216 → be24At (message head body) 1 ≡ n
   message-field h = be24-alike (message head body) (putBe24 head 1 n) 1 1 (λ j l. message-put (1 + j) (omega arith)) ∙ field-put head 1 n (omega arith) h
 
--- reading a message: its header's fault, else its walk
+-- reading a message: its header's fault, else its walk; at the Cx server
+unfoldable pub readBodyBy : ℕ → Dialect → Walk → Judged
+readBodyBy n d w = cond (eqb n 0) (readWalk d w) (bad (faultOf n))
+
 unfoldable pub readBody : Dialect → List ℕ → Walk → Judged
-readBody d head w = cond (eqb (headerFault d head) 0) (readWalk d w) (bad (faultOf (headerFault d head)))
+readBody d head w = readBodyBy (headerFault d head) d w
 
 pub message-read : (d : Dialect) (head : List ℕ) → length head ≡ 20 → (body : List ℕ) → readIn d (message head body) ≡ readBody d head (walk body)
-unfolding readIn readBody
+unfolding readIn readBody readBodyBy
 message-read d head twenty body = rw (message-fault head twenty body d, message-body head twenty body)
 
 -- a body within the limits; no message of such a body is refused by its length
@@ -152,10 +163,12 @@ later-is : (more : ℕ → ℕ) → more 0 ≡ 0 → (p : ℕ) → p + more p �
 later-is more none zero = zero-add (more 0) ∙ none
 later-is more none (suc p) = rw (ne-eqb (suc p) 0 (omega arith))
 
--- two bodies of which the answer copies the same
+-- two bodies of which the answer copies the same, and which want the same features
 pub record Alike (v w : Walk) : Type 0 where
   pub session : sessionOf v ≡ sessionOf w
   pub copies : proxies v ≡ proxies w
+  pub called : calledIn v ≡ calledIn w
+  pub beyond : (set : ℕ) → someAvp (asksBeyond set) v ≡ someAvp (asksBeyond set) w
 
 module _ (x : Lent) (head : List ℕ) (twenty : length head ≡ 20) (b c : List ℕ) (alike : Alike (walk b) (walk c)) where
   abbrev dialect : Dialect
@@ -167,10 +180,28 @@ module _ (x : Lent) (head : List ℕ) (twenty : length head ≡ 20) (b c : List 
   abbrev short : List ℕ
   short = message head c
 
+  list-same : listBytes (x .terms) long ≡ listBytes (x .terms) short
+  unfolding listBytes listCalled
+  list-same =
+      rw (
+        message-dialect head twenty b (x .terms),
+        message-dialect head twenty c (x .terms),
+        message-fault head twenty b dialect,
+        message-fault head twenty c dialect,
+        message-body head twenty b,
+        message-body head twenty c,
+        alike .called,
+      )
+
+  beyond-same : beyondSet (x .terms) long ≡ beyondSet (x .terms) short
+  unfolding beyondSet
+  beyond-same = rw (message-body head twenty b, message-body head twenty c) (alike .beyond (x .terms .features))
+
   body-same : (t file v : List ℕ) (g h : Given) → SameGiven long short g h → bodyBytes (x .terms) long t file v g ≡ bodyBytes (x .terms) short t file v h
   unfolding bodyBytes topBytes restBytes givenBytes nameBytes identityBytes dataBytes endBytes
   body-same t file v g h s =
       rw (
+        list-same,
         s .failed,
         message-body head twenty b,
         message-body head twenty c,
@@ -199,27 +230,31 @@ module _ (x : Lent) (head : List ℕ) (twenty : length head ≡ 20) (b c : List 
 
   pub answered-same : (h : ℕ → ℕ) (d e : Decision) → SameDecision long short d e → d .place ≡ h (e .place)
       → answered (asking x long) d ≡ placed h (answered (asking x short) e)
-  unfolding answered
+  unfolding answeredBy
   answered-same h d e s p = rw (answer-same (x .table) (x .profile) (x .vectors) (d .given) (e .given) (s .given), s .table, s .vectors, p)
 
   module _ {from : ℕ} {more : ℕ → ℕ} (none : more 0 ≡ 0) (read : Moved long short from more (readBody dialect head (walk b)) (readBody dialect head (walk c)))
-      (named : identities (walk b) ≡ identities (walk c)) where
-    both-named : identities (bodyOf long) ≡ identities (bodyOf short)
-    both-named = rw (message-body head twenty b, message-body head twenty c) named
+      (named : (commandOf head ≡ 306 → ⊥) → identities (walk b) ≡ identities (walk c)) where
+    both-named : (commandOf head ≡ 306 → ⊥) → identities (bodyOf long) ≡ identities (bodyOf short)
+    both-named other = rw (message-body head twenty b, message-body head twenty c) (named other)
 
     judged-same : (t : List ℕ) (count : ℕ) (v : List ℕ) {j k : Judged} → readIn dialect short ≡ k → Moved long short from more j k
         → SameDecision long short (judgedBy inForce dialect long t count v j) (judgedBy inForce dialect short t count v k)
     unfolding judgedBy
     judged-same t count v is (faults f g l) = record { given = fault-same long short f g (l .result) (l .failed); table = refl; vectors = refl }
     judged-same t count v is (same seen) =
-        plan-same long short t count v seen both-named dialect is
+        rw beyond-same
+        (each (SameDecision long short) (beyondSet (x .terms) short)
+        (record { given = blameless-same long short (givenFault featureUnsupported) (refl, refl); table = refl; vectors = refl })
+        (plan-same long short t count v seen (both-named (λ z. omega (arith, z, read-command dialect short seen is))) dialect is))
 
     -- the place is the verdict's, or both have none
     judged-place : (t : List ℕ) (count : ℕ) (v : List ℕ) {j k : Judged} → Moved long short from more j k
         → judgedBy inForce dialect long t count v j .place ≡ later more (judgedBy inForce dialect short t count v k .place)
     unfolding judgedBy performedBy
     judged-place t count v (faults f g l) = l .place ∙ later-is more none (g .place)
-    judged-place t count v (same seen) = refl
+    judged-place t count v (same seen) =
+        rw beyond-same (each (λ (d e : Decision). d .place ≡ later more (e .place)) (beyondSet (x .terms) short) refl refl)
 
     decide-same : (t : List ℕ) (count : ℕ) (v : List ℕ)
         → SameDecision long short (decide (dialectOf (x .terms) long) long t count v) (decide (dialectOf (x .terms) short) short t count v)

@@ -3,16 +3,18 @@ use Rattle.octets.specs.Standard.{ℕ, _≤_, List, [], _∷_, _++_, map, appen
 use Rattle.octets.specs.Standard.{length, getD, length-append}
 use Rattle.blocks.specs.declared.Checked.the-variants.{Sound}
 use Rattle.table.specs.SoundTable.{SoundTable}
-use Rattle.diameter.specs.Walk.{Walk, ended, avp, walk}
+use Rattle.diameter.specs.Walk.{Walk, ended, avp, walk, someAvp}
 use Rattle.diameter.specs.Put.{glue, Piece, Whole, All, bytesOf, avpsOf}
 use Rattle.diameter.specs.Message.{bodyOf}
 use Rattle.diameter.specs.AvpAt.{avpAt}
 use Rattle.diameter.proofs.Pieces.{walk-pieces, row-even, glue-glue, avps-joined}
 use Rattle.diameter.proofs.Walks.{walk-nil}
+use Rattle.reading.specs.Features.{asksBeyond, callsList}
 use Rattle.reading.specs.Kinds.{kindOf, publicIdentity, userName, serverName, assignmentType, dataAvailable}
 use Rattle.reading.specs.Rules.{Seen}
+use Rattle.requests.specs.Features.{beyondSet, calledIn}
 use Rattle.requests.specs.Judged.{fine}
-use Rattle.requests.specs.Request.{dialectOf, readIn, identities, sessionOf, dataSeen}
+use Rattle.requests.specs.Request.{dialectOf, identities, sessionOf, dataSeen}
 use Rattle.requests.specs.Identity.{placesFrom}
 use Rattle.requests.proofs.Naming.{identities-at}
 use Rattle.assignment.specs.Assignment.{Assignment, assign}
@@ -23,8 +25,8 @@ use Rattle.reading.specs.declared.Dialect.{Dialect}
 use Rattle.deciding.proofs.Cases.{Blameless}
 use Rattle.deciding.proofs.Comes.{plan-blameless}
 use Rattle.calling.specs.Lent.{Lent, asking, dialectIn}
-use Rattle.calling.specs.Serve.{checkOf, checkValue, answered, decision, serveTable}
-use Rattle.demands.specs.Call.{turnedAway}
+use Rattle.calling.specs.Serve.{checkOf, checkValue, answered, answeredBy, decision, serveTable}
+use Rattle.demands.specs.Call.{turnedAway, Decides}
 use Rattle.demands.specs.Insertion.{message}
 use Rattle.demands.specs.Sets.{Removes, OneFewer, Member}
 use Rattle.demands.proofs.Alike.{SameDecision, blameless-same}
@@ -48,11 +50,11 @@ bytes-left (q ∷ qs) one ps = simp length-append (omega (arith, bytes-left qs o
 row-walk : (qs : List Piece) → All Whole qs → walk (bytesOf qs) ≡ glue (avpsOf qs) ended
 row-walk qs h = ap walk (sym (append-nil (bytesOf qs))) ∙ walk-pieces qs [] h ∙ rw walk-nil
 
--- a SAR that was read
-decide-sar : (d : Dialect) (req t : List ℕ) (count : ℕ) (v : List ℕ) (seen : Seen) → readIn d req ≡ fine seen → d .command ≡ 301
+-- a SAR that is decided upon
+decide-sar : (d : Dialect) (req t : List ℕ) (count : ℕ) (v : List ℕ) (seen : Seen) → Decides d req seen → d .command ≡ 301
     → decide d req t count v ≡ performedBy inForce req t count v seen (assign t count (assignmentOf req t seen))
 unfolding decideBy judgedBy planRead sarPlan
-decide-sar d req t count v seen read sar = rw (read, sar)
+decide-sar d req t count v seen read sar = rw (read .read, read .inside, sar)
 
 -- as many places as identities
 places-some : (req : List ℕ) (xs ys : List (List ℕ)) (y : List ℕ) → identities (bodyOf req) ≡ xs ++ (y ∷ ys) → length (placesFrom 20 (bodyOf req)) ≡ 0 → ⊥
@@ -95,14 +97,34 @@ module _ (head : List ℕ) (twenty : length head ≡ 20) (before : List Piece) (
   abbrev Begun : Type 0
   Begun = (length before ≡ 0 → ⊥)
 
+  -- it is no 628
+  called-other : callsList (one .avp) ≡ false
+  unfolding callsList
+  called-other = rw identity
+
+  beyond-other : (set : ℕ) → asksBeyond set (one .avp) ≡ false
+  unfolding asksBeyond
+  beyond-other set = rw identity
+
+  some-left : (p : List ℕ → Bool) → p (one .avp) ≡ false → (qs : List (List ℕ)) → someAvp p (glue qs (avp (one .avp) rest)) ≡ someAvp p (glue qs rest)
+  unfolding someAvp glue
+  some-left p e [] = rw e
+  some-left p e (q ∷ qs) = rw (some-left p e qs)
+
   copied : Begun → Alike (walk long) (walk short)
   unfolding avpsOf glue
   copied n =
       record {
         session = rw (long-walk, short-walk) (go before n);
         copies = rw (long-walk, short-walk) (copies-left (one .avp) identity rest (avpsOf before));
+        called = rw (long-walk, short-walk) (later before n);
+        beyond = λ set. rw (long-walk, short-walk) (some-left (asksBeyond set) (beyond-other set) (avpsOf before));
       }
     where
+      later : (qs : List Piece) → (length qs ≡ 0 → ⊥) → calledIn (glue (avpsOf qs) (avp (one .avp) rest)) ≡ calledIn (glue (avpsOf qs) rest)
+      later [] n = absurd (n refl)
+      later (q ∷ qs) n = some-left callsList called-other (avpsOf qs)
+
       go : (qs : List Piece) → (length qs ≡ 0 → ⊥) → sessionOf (glue (avpsOf qs) (avp (one .avp) rest)) ≡ sessionOf (glue (avpsOf qs) rest)
       go [] n = absurd (n refl)
       go (q ∷ qs) n = refl
@@ -112,7 +134,7 @@ module _ (head : List ℕ) (twenty : length head ≡ 20) (before : List Piece) (
     sar = removes .sar
 
     read-long : readBody d head (glue (avpsOf before) (avp (one .avp) rest)) ≡ fine (removes .seen)
-    read-long = ap (readBody d head) (sym long-walk) ∙ sym (message-read d head twenty long) ∙ removes .read
+    read-long = ap (readBody d head) (sym long-walk) ∙ sym (message-read d head twenty long) ∙ removes .read .read
 
     begun : Begun
     unfolding avpsOf glue
@@ -131,8 +153,16 @@ module _ (head : List ℕ) (twenty : length head ≡ 20) (before : List Piece) (
         go [] n r = absurd (n refl)
         go (q ∷ qs) n r = read-left d sar head (one .avp) identity rest (q .avp) (avpsOf qs) (removes .seen) r
 
-    read-fewer : readIn d (message head short) ≡ fine (read-short .seen)
-    read-fewer = message-read d head twenty short ∙ ap (readBody d head) short-walk ∙ read-short .is
+    read-fewer : Decides d (message head short) (read-short .seen)
+    unfolding beyondSet
+    read-fewer =
+        record {
+          read = message-read d head twenty short ∙ ap (readBody d head) short-walk ∙ read-short .is;
+          inside =
+              ap (someAvp (asksBeyond (d .terms .features))) (message-body head twenty short) ∙ sym (copied begun .beyond (d .terms .features))
+              ∙ ap (someAvp (asksBeyond (d .terms .features))) (sym (message-body head twenty long))
+              ∙ removes .read .inside;
+        }
 
     module _ (t : List ℕ) (count : ℕ) (sound : SoundTable t count) (m : Member t count (before ++ after) one) (v : List ℕ) where
       still : named before ++ named after ≡ named (m .front) ++ (m .other .avp ∷ named (m .back))
@@ -225,7 +255,7 @@ module _ (head : List ℕ) (twenty : length head ≡ 20) (before : List Piece) (
 
       answers-at : (n : ℕ) → n ≡ count → answered (asking x (message head long)) (decision (asking x (message head long)) n)
           ≡ answered (asking x (message head short)) (decision (asking x (message head short)) n)
-      unfolding answered
+      unfolding answeredBy
       answers-at n e =
           let table : SoundTable (x .table) count = record { file = length (x .profile); checked = sound } in
           rw (e, message-dialect head twenty long (x .terms), message-dialect head twenty short (x .terms), is)

@@ -1,6 +1,6 @@
 -- Demand 1: an answer, or exactly one of seven refusals. What a refused call leaves, and what an answered one writes.
-use Rattle.octets.specs.Standard.{ℕ, _≤_, _<_, List, Bool, true, false, cond, _||_, true≢false, _≡_, refl, sym, ap, _∙_, _≢_, arith, length, drop}
-use Rattle.octets.specs.Standard.{drop-at}
+use Rattle.octets.specs.Standard.{ℕ, _≤_, _<_, List, Bool, true, false, cond, _||_, true≢false, _≡_, refl, sym, ap, _∙_, _⊎_, inl, inr, _≢_, arith, length}
+use Rattle.octets.specs.Standard.{drop, drop-at}
 use Rattle.octets.specs.Run.{over}
 use Rattle.octets.proofs.Writes.{over-length}
 use Rattle.blocks.specs.declared.Checked.{Checked}
@@ -10,7 +10,7 @@ use Rattle.calling.specs.Call.{Answer, Call, Answered, Refused}
 use Rattle.calling.specs.Lent.{Lent, asking, dialectIn}
 use Rattle.calling.specs.Trial.{Trial, tried, anyHolds}
 use Rattle.calling.specs.Serve.{Served, unknownPeer, smallBuffer, wrongSize, wrongLength, noRequest, isBad, earlyTrials, unsound, checkOf, trials, refused}
-use Rattle.calling.specs.Serve.{answered, decision, checkValue, serveFound, serveTableBy, serveTable}
+use Rattle.calling.specs.Serve.{answered, answeredBy, decision, checkValue, serveFound, serveTableBy, serveTable}
 use Rattle.ndushavire.specs.Word.{callWord}
 use Rattle.ndushavire.specs.Reads.{callNumber, callPlace, callValue, Reads}
 use Rattle.calling.proofs.Calls.{size-least, size-most}
@@ -37,17 +37,17 @@ module _ (x : Lent) where
   answer = answered x (decision x (checkValue (checkOf x)))
 
   -- What holds of 5, and of each that returns 0 besides, holds of all seven.
-  seven : (Q : Trial → Type 0) → ((h : Bool) (n : ℕ) → 1 ≤ n → n ≤ 12 → n ≢ 5 → Q (record { holds = h; number = n; besides = 0 })) → Q (unsound (checkOf x))
-      → All Q (trials x)
+  seven : (Q : Trial → Type 0) → ((h : Bool) (n : ℕ) → 1 ≤ n → (n ≤ 6) ⊎ (n ≡ 12) → n ≢ 5 → Q (record { holds = h; number = n; besides = 0 }))
+      → Q (unsound (checkOf x)) → All Q (trials x)
   seven Q o f = (
-    o _ 12 (omega arith) (omega arith) (omega arith),
+    o _ 12 (omega arith) (inr refl) (omega arith),
     (
-      o _ 1 (omega arith) (omega arith) (omega arith),
+      o _ 1 (omega arith) (inl (omega arith)) (omega arith),
       (
-        o _ 2 (omega arith) (omega arith) (omega arith),
+        o _ 2 (omega arith) (inl (omega arith)) (omega arith),
         (
-          o _ 3 (omega arith) (omega arith) (omega arith),
-          (o _ 4 (omega arith) (omega arith) (omega arith), (f, (o _ 6 (omega arith) (omega arith) (omega arith), tt))),
+          o _ 3 (omega arith) (inl (omega arith)) (omega arith),
+          (o _ 4 (omega arith) (inl (omega arith)) (omega arith), (f, (o _ 6 (omega arith) (inl (omega arith)) (omega arith), tt))),
         ),
       ),
     ),
@@ -64,7 +64,7 @@ module _ (x : Lent) where
   any-call = serve-either x
 
   pub refusals : Exactly (trials x) (callNumber (serveTable x .call))
-  unfolding serveTableBy serveFound refused answered
+  unfolding serveTableBy serveFound refused answeredBy
   refusals =
       exactly (refused x) answer (λ (s : Served). callNumber (s .call)) (λ r. refl) refl (trials x) (
         refl,
@@ -80,10 +80,11 @@ module _ (x : Lent) where
         ),
       )
 
-  pub number-most : callNumber (serveTable x .call) ≤ 12
-  unfolding refused answered
+  pub number-most : (callNumber (serveTable x .call) ≤ 6) ⊎ (callNumber (serveTable x .call) ≡ 12)
+  unfolding refused answeredBy
   number-most =
-      call-by (λ b s. callNumber (s .call) ≤ 12) (λ r. r .number ≤ 12) (seven (λ r. r .number ≤ 12) (λ h n a b c. b) (omega arith)) (λ r h e. h) (omega arith)
+      call-by (λ b s. (callNumber (s .call) ≤ 6) ⊎ (callNumber (s .call) ≡ 12)) (λ r. (r .number ≤ 6) ⊎ (r .number ≡ 12))
+      (seven (λ r. (r .number ≤ 6) ⊎ (r .number ≡ 12)) (λ h n a b c. b) (inl (omega arith))) (λ r h e. h) (inl (omega arith))
 
   -- Refusal 5 returns the first bad block besides, every other refusal 0, an answer its length.
   record Besides (c : Call) : Type 0 where
@@ -102,7 +103,7 @@ module _ (x : Lent) where
   fifth = record { none = λ i. absurd (i refl); block = λ h e. bad-block (checkOf x) h }
 
   besides : Besides (serveTable x .call)
-  unfolding refused answered isAnswer
+  unfolding refused answeredBy isAnswer
   besides =
       call-by (λ b s. Besides (s .call)) Right (seven Right (λ h n a b c. other h n c) fifth)
       (λ r q h.
@@ -154,7 +155,7 @@ module _ (x : Lent) where
     short e = let h = taken x e in fits (h .size) (h .lengths) (checkValue (checkOf x)) (h .table) (h .vectors)
 
     pub word-reads : Reads (serveTable x .call) (callWord (serveTable x .call))
-    unfolding refused answered
+    unfolding refused answeredBy
     word-reads =
         call-by (λ b s. turnedAway x ≡ b → Reads (s .call) (callWord (s .call))) (λ r. (1 ≤ r .number) × (r .besides ≤ 4096))
         (seven (λ r. (1 ≤ r .number) × (r .besides ≤ 4096)) (λ h n a b c. (a, omega arith)) (omega arith, check-most (x .table) (length (x .profile))))
@@ -170,21 +171,21 @@ module _ (x : Lent) where
             omega (arith, size-most (x .request) s, decide-within (dialectIn x) (x .request) (x .table) count (x .vectors) (size-least (x .request) s))
 
     pub answer-within : callNumber (serveTable x .call) ≡ 0 → callValue (serveTable x .call) ≤ length (x .buffer)
-    unfolding refused answered
+    unfolding refused answeredBy
     answer-within =
         call-by (λ b s. turnedAway x ≡ b → callNumber (s .call) ≡ 0 → callValue (s .call) ≤ length (x .buffer)) (λ r. 1 ≤ r .number)
         (seven (λ r. 1 ≤ r .number) (λ h n a b c. a) (omega arith)) (λ r q h e z. absurd (omega (arith, q, z)))
         (λ e z. omega (arith, short e, taken x e .room)) refl
 
     pub buffer-length : length (serveTable x .buffer) ≡ length (x .buffer)
-    unfolding refused answered
+    unfolding refused answeredBy
     buffer-length =
         any-call (λ b s. turnedAway x ≡ b → length (s .buffer) ≡ length (x .buffer)) (λ r e. refl)
         (λ e. over-length (answerTo x (checkValue (checkOf x))) (x .buffer) (omega (arith, short e, taken x e .room))) refl
 
   -- the buffer past the answer
   pub buffer-past : drop (callValue (serveTable x .call)) (serveTable x .buffer) ≡ drop (callValue (serveTable x .call)) (x .buffer)
-  unfolding refused answered over
+  unfolding refused answeredBy over
   buffer-past =
       let bytes = answerTo x (checkValue (checkOf x)) in
       any-call (λ b s. drop (callValue (s .call)) (s .buffer) ≡ drop (callValue (s .call)) (x .buffer)) (λ r. refl)
@@ -198,7 +199,8 @@ refused-alike x req other a b c e =
     rw (a, b, c) (tried-alike (refused (asking x other)) (answer (asking x req)) (answer (asking x other)) (trials (asking x other)) e)
 
 -- what the first five let pass is refused by 5, over a table whose check answers a bad block
-pub unsound-refused : (x : Lent) (k : ℕ) → anyHolds (earlyTrials (x .terms) (x .request) (x .buffer)) ≡ false → checkOf x ≡ Bad k → serveTable x .call ≡ Refused 5 k
+pub unsound-refused : (x : Lent) (k : ℕ) → anyHolds (earlyTrials (x .terms) (x .request) (x .buffer)) ≡ false → checkOf x ≡ Bad k
+    → serveTable x .call ≡ Refused 5 k
 unfolding serveTableBy serveFound anyHolds tried refused
 unsound-refused x k none e =
     rw e

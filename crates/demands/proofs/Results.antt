@@ -1,6 +1,6 @@
 -- Which results can be: reading blames one of ten, and no other; and what the choices of a UAR and a LIR never come to.
 use Rattle.octets.specs.Standard.{ℕ, _+_, _/_, _%_, List, [], _∷_, none, Bool, true, false, cond, not, _&&_, true≢false, _≡_, refl, sym, ap, _∙_, _⊎_}
-use Rattle.octets.specs.Standard.{inl, inr, _≢_, length, getD, eqb, leb, eqb-false}
+use Rattle.octets.specs.Standard.{inl, inr, _≢_, arith, length, getD, eqb, leb, eqb-false}
 use Rattle.blocks.specs.Changed.{isOne}
 use Rattle.diameter.specs.Avp.{padded, avpHead, avpFlags, dataOf, valueOf, reserved, marked}
 use Rattle.diameter.specs.Message.{versionOf, messageFlags, applicationOf, bodyOf}
@@ -18,8 +18,9 @@ use Rattle.reading.specs.declared.Outcome.the-variants.{Base, Experimental}
 use Rattle.reading.specs.declared.Ruled.{Ruled}
 use Rattle.reading.specs.declared.Ruled.the-variants.{Taken, Skipped, Fault}
 use Rattle.reading.specs.declared.Use.{Use}
-use Rattle.reading.specs.declared.Use.the-variants.{Unknown, Unnamed, Needed, Optional, Repeated}
+use Rattle.reading.specs.declared.Use.the-variants.{Unknown, Unnamed, Needed, Optional, Repeated, Several}
 use Rattle.reading.specs.declared.Verdict.{Verdict}
+use Rattle.requests.specs.Features.{beyondSet}
 use Rattle.requests.specs.Judged.{Judged, bad, fine, nothing, onRule, judge}
 use Rattle.requests.specs.Request.{spoken, headerFault, firstOther, missing, complete, readWalk, readIn}
 use Rattle.lookup.specs.Find.{findServer}
@@ -31,7 +32,9 @@ use Rattle.choices.specs.declared.choice.Choice.{Choice}
 use Rattle.choices.specs.declared.choice.Choice.the-variants.{Alone, Server, Capabilities, First}
 use Rattle.choices.specs.declared.choice.Sought.{Sought}
 use Rattle.questions.specs.Carried.{servedBy, carried}
+use Rattle.deciding.specs.Decide.{judgedBy, decideBy, decide}
 use Rattle.deciding.proofs.Tests.{either}
+use Rattle.demands.specs.Call.{Decides}
 
 -- the header's four, (b) and what is missing, and those of (a) and (c) to (h)
 abbrev readingResults : List ℕ
@@ -79,6 +82,7 @@ use-ruling Unnamed earlier flags n l = tt
 use-ruling Needed earlier flags n l = either Ruling earlier refl (content-ruling n l)
 use-ruling Optional earlier flags n l = either Ruling earlier refl (content-ruling n l)
 use-ruling Repeated earlier flags n l = content-ruling n l
+use-ruling Several earlier flags n l = content-ruling n l
 
 rule-ruling : (d : Dialect) (seen : Seen) (a : List ℕ) → Ruling (rule d seen a)
 unfolding rule ruleBy isOne
@@ -135,6 +139,24 @@ read-blames d req v e = go (readIn d req) (read-judging d req) e
 -- no other result is
 pub read-other : (d : Dialect) (req : List ℕ) (v : Verdict) (r : Outcome) → ofReading r ≡ false → readIn d req ≡ bad v → v .result ≢ r
 read-other d req v r n e f = true≢false (sym (rw f at (read-blames d req v e)) ∙ n)
+
+-- A B result that reading never gives is that of a request that is decided upon.
+pub record Upon (d : Dialect) (req : List ℕ) : Type 0 where
+  pub seen : Seen
+  pub decides : Decides d req seen
+
+pub decided-upon : (d : Dialect) (req t : List ℕ) (count : ℕ) (v : List ℕ) (n : ℕ) → ofReading (Base n) ≡ false
+    → decide d req t count v .given .verdict .result ≡ Base n → Upon d req
+unfolding decideBy judgedBy
+decided-upon d req t count v n other e = go (readIn d req) refl
+  where
+    on : (seen : Seen) → readIn d req ≡ fine seen → (x : Bool) → beyondSet (d .terms) req ≡ x → Upon d req
+    on seen r true b = let f = rw (r, b) at e in let z : _≡_ {A = ℕ} 0 1 = cc in absurd (omega arith)
+    on seen r false b = record { seen = seen; decides = record { read = r; inside = b } }
+
+    go : (j : Judged) → readIn d req ≡ j → Upon d req
+    go (bad f) r = absurd (read-other d req f (Base n) other r (rw r at e))
+    go (fine seen) r = on seen r (beyondSet (d .terms) req) refl
 
 -- a result of B, by its number
 abbrev pub isBase : ℕ → Outcome → Bool

@@ -14,8 +14,7 @@ use Rattle.diameter.specs.Message.{commandOf}
 use Rattle.reading.specs.Kinds.{userName, publicIdentity, visitedNetwork, authorizationType}
 use Rattle.reading.specs.Rules.{Seen}
 use Rattle.reading.specs.declared.Outcome.the-variants.{Base, Experimental}
-use Rattle.requests.specs.Judged.{fine}
-use Rattle.requests.specs.Request.{readIn, dataSeen, valueSeen}
+use Rattle.requests.specs.Request.{dataSeen, valueSeen}
 use Rattle.choices.specs.Choices.{authorization}
 use Rattle.questions.specs.Authorization.{askedAt}
 use Rattle.questions.specs.Carried.{carried}
@@ -28,6 +27,7 @@ use Rattle.calling.proofs.Kept.{table-checked}
 use Rattle.ndushavire.specs.Reads.{ReadsCheck}
 use Rattle.ndushavire.specs.Promise.{CheckPromise}
 use Rattle.older_rules.specs.WithoutSets.{NoSets, beforeSets}
+use Rattle.demands.specs.Call.{Decides}
 use Rattle.demands.specs.Sets.{Shares, Agrees, Disagrees, Stands, Belongs, Barred, Removes, OneFewer, Member}
 use Rattle.demands.proofs.Blaming.{base-experimental}
 use Rattle.demands.proofs.Demands.{checked}
@@ -44,7 +44,7 @@ use Rattle.demands.proofs.Unable as unable
 -- "Document 01 rejects every barred identity in a UAR. The trade's rule is softer: one with a non-barred identity in its implicit set may go on.": it is not
 -- rejected, and where the User-Name is its record's, the answer carries what it does for an identity that is known (`true`) and not barred (`false`)
 module _ (a : Lent) (count : ℕ) (sound : checkOf (tableOnly a) ≡ Sound count) (uar : commandOf (a .request) ≡ 300) (seen : Seen)
-    (read : readIn (dialectIn a) (a .request) ≡ fine seen) (k j : ℕ) (stands : Stands (tableIn (a .table)) count k (dataSeen seen publicIdentity))
+    (read : Decides (dialectIn a) (a .request) seen) (k j : ℕ) (stands : Stands (tableIn (a .table)) count k (dataSeen seen publicIdentity))
     (from : 1 ≤ j) (to : j ≤ count) (shares : Shares (tableIn (a .table)) k j) (free : barred (bitsOf (blockOf (tableIn (a .table)) j)) ≡ false) where
   pub going-on : resultOf (tableOnly a) ≢ Base 5003
   going-on e =
@@ -116,13 +116,13 @@ module _ (a : Lent) (count : ℕ) (sound : checkOf (tableOnly a) ≡ Sound count
   barred-given = barring.barred-given (tableOnly a) count sound uar
 
   -- "its place is the same.": after X5001 and X5002, and before X5004, whatever network is visited
-  pub barred-unknown : (seen : Seen) → readIn (dialectIn a) (a .request) ≡ fine seen
+  pub barred-unknown : (seen : Seen) → Decides (dialectIn a) (a .request) seen
       → ((k : ℕ) → Stands (tableIn (a .table)) count k (dataSeen seen publicIdentity) → ⊥)
       ⊎ ((k : ℕ) → Belongs (tableIn (a .table)) count k (dataSeen seen userName) → ⊥)
       → resultOf (tableOnly a) ≡ Experimental 5001
   barred-unknown = barring.barred-unknown (tableOnly a) count sound uar
 
-  pub barred-apart : (seen : Seen) → readIn (dialectIn a) (a .request) ≡ fine seen → (k j : ℕ)
+  pub barred-apart : (seen : Seen) → Decides (dialectIn a) (a .request) seen → (k j : ℕ)
       → Stands (tableIn (a .table)) count k (dataSeen seen publicIdentity) → Belongs (tableIn (a .table)) count j (dataSeen seen userName)
       → privateAt (tableIn (a .table)) k ≢ dataSeen seen userName → resultOf (tableOnly a) ≡ Experimental 5002
   barred-apart = barring.barred-apart (tableOnly a) count sound uar

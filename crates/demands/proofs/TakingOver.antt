@@ -4,9 +4,8 @@ use Rattle.octets.specs.Standard.{ℕ, _<_, _≤_, Bool, false, _≡_, sym, ap,
 use Rattle.blocks.specs.declared.Checked.the-variants.{Bad}
 use Rattle.table.specs.Area.{sizeIn, tableIn, checkArea}
 use Rattle.table.proofs.Areas.{in-all, sound-size-in}
-use Rattle.calling.specs.Call.{Refused}
 use Rattle.calling.specs.Lent.{Lent, holding, tableOnly}
-use Rattle.calling.specs.Serve.{Served, SameCall, earlyTrials, serveTable, serve}
+use Rattle.calling.specs.Serve.{earlyTrials, serveTable, serve}
 use Rattle.calling.specs.Trial.{anyHolds}
 use Rattle.calling.proofs.Areas.{bad-refused, served-in}
 use Rattle.taking.specs.TakeOver.{takeOver}

@@ -13,22 +13,21 @@ use Rattle.rewrite.proofs.Writes.{differ-same}
 use Rattle.reading.specs.Kinds.{serverName}
 use Rattle.reading.specs.Rules.{Seen}
 use Rattle.reading.specs.declared.Dialect.{Dialect}
+use Rattle.requests.specs.Features.{beyondSet}
 use Rattle.requests.specs.Judged.{Judged, bad, fine}
 use Rattle.requests.specs.Request.{readIn, dataSeen}
-use Rattle.choices.specs.declared.types.AssignmentType.{AssignmentType}
-use Rattle.choices.specs.declared.plan.Sar.{Sar}
-use Rattle.choices.specs.declared.plan.Settling.{Settling}
 use Rattle.choices.specs.declared.plan.Deed.{Deed}
 use Rattle.choices.specs.declared.plan.Deed.the-variants.{Leave, Settle, Challenge}
-use Rattle.assignment.specs.Assignment.{Assignment, storedName, plannedRecords}
+use Rattle.assignment.specs.Assignment.{storedName, plannedRecords}
 use Rattle.deciding.specs.Plans.{assignmentOf, planRead}
 use Rattle.deciding.specs.Rules.{inForce}
-use Rattle.deciding.specs.Decide.{performedBy, judgedBy, decideBy, decide}
+use Rattle.deciding.specs.Decide.{Decision, performedBy, judgedBy, decideBy, decide}
+use Rattle.deciding.proofs.Tests.{either}
 use Rattle.deciding.specs.Deeds.{carriedOut}
 use Rattle.deciding.specs.DeedFits.{DeedFits}
 use Rattle.deciding.proofs.Deeds.{plan-fits}
 use Rattle.calling.specs.Lent.{Lent, dialectIn}
-use Rattle.calling.specs.Serve.{checkOf, checkValue, refused, answered, serveTable}
+use Rattle.calling.specs.Serve.{checkOf, checkValue, refused, answeredBy, serveTable}
 use Rattle.calling.proofs.Kept.{serve-by}
 
 -- TOGETHER. Of two records of one set both have other bytes after a call, or neither.
@@ -55,12 +54,14 @@ module _ (t : List ℕ) (count : ℕ) (sound : SoundTable t count) (bytes : Byte
     where
       go : (e : Judged) → readIn dialect req ≡ e → Together (judgedBy inForce dialect req t count v e .table)
       go (bad f) e = left-together
-      go (fine seen) e = deed-together req seen (planRead dialect req t count v seen .deed) (plan-fits dialect req t count v seen e)
+      go (fine seen) e =
+          either (λ (d : Decision). Together (d .table)) (beyondSet (dialect .terms) req) left-together
+          (deed-together req seen (planRead dialect req t count v seen .deed) (plan-fits dialect req t count v seen e))
 
 pub members-together : (x : Lent) (count : ℕ) → checkOf x ≡ Sound count → Bytes (x .table) → (j k : ℕ) → 1 ≤ j → j ≤ count → 1 ≤ k → k ≤ count
     → sameSet (blockOf (x .table) j) (blockOf (x .table) k) ≡ true
     → differ (blockOf (x .table) j) (blockOf (serveTable x .table) j) ≡ differ (blockOf (x .table) k) (blockOf (serveTable x .table) k)
-unfolding refused answered
+unfolding refused answeredBy
 members-together x count e bytes j k a b c d one =
     serve-by x (λ s. differ (blockOf (x .table) j) (blockOf (s .table) j) ≡ differ (blockOf (x .table) k) (blockOf (s .table) k))
     (λ r l m. left-together (x .table) count sound bytes j k a b c d one)

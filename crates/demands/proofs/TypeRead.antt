@@ -13,7 +13,7 @@ use Rattle.reading.specs.declared.Dialect.{Dialect}
 use Rattle.reading.specs.declared.Ruled.{Ruled}
 use Rattle.reading.specs.declared.Ruled.the-variants.{Taken, Skipped, Fault}
 use Rattle.reading.specs.declared.Use.{Use}
-use Rattle.reading.specs.declared.Use.the-variants.{Unknown, Unnamed, Needed, Optional, Repeated}
+use Rattle.reading.specs.declared.Use.the-variants.{Unknown, Unnamed, Needed, Optional, Repeated, Several}
 use Rattle.requests.specs.Judged.{Judged, bad, fine, nothing, onRule, judge}
 use Rattle.requests.specs.Request.{headerFault, firstOther, missing, complete, readWalk, readIn, valueSeen}
 use Rattle.choices.specs.Types.{typeOf, asksOnly}
@@ -42,6 +42,7 @@ use-faultless Unnamed earlier flags n = tt
 use-faultless Needed earlier flags n = either (Faultless n) earlier tt (content-faultless n)
 use-faultless Optional earlier flags n = either (Faultless n) earlier tt (content-faultless n)
 use-faultless Repeated earlier flags n = content-faultless n
+use-faultless Several earlier flags n = content-faultless n
 
 rule-faultless : (d : Dialect) (seen : Seen) (a : List ℕ) → Faultless (contentFault d (rowOf (kindOf a) .content) a) (rule d seen a)
 unfolding rule ruleBy

@@ -7,13 +7,12 @@ use Rattle.blocks.specs.declared.Checked.the-variants.{Sound}
 use Rattle.diameter.specs.Message.{commandOf}
 use Rattle.reading.specs.Rules.{Seen}
 use Rattle.reading.specs.declared.Outcome.the-variants.{Base}
-use Rattle.requests.specs.Judged.{Judged, bad, fine}
+use Rattle.requests.specs.Judged.{fine}
 use Rattle.requests.specs.Request.{readIn}
 use Rattle.choices.specs.declared.plan.Plan.{Plan}
 use Rattle.questions.specs.Authorization.{authorizeFound, authorize}
 use Rattle.questions.specs.Location.{locateFound, locate}
 use Rattle.deciding.specs.Plans.{uarPlan, sarPlan, lirPlan, marPlan, planRead}
-use Rattle.deciding.specs.Rules.{inForce}
 use Rattle.deciding.specs.Decide.{Decision, performedBy, judgedBy, decideBy, decide}
 use Rattle.deciding.proofs.Read.{read-command}
 use Rattle.reading.specs.declared.Dialect.{Dialect}
@@ -21,7 +20,7 @@ use Rattle.calling.specs.Lent.{Lent, dialectIn}
 use Rattle.calling.specs.Serve.{checkOf, decisionBy}
 use Rattle.older_rules.specs.WithBranch.{withBranch}
 use Rattle.older_rules.proofs.Unreachable.{decided-alike}
-use Rattle.demands.proofs.Results.{read-other, isBase, carried-without, authorization-without, location-without, location-free}
+use Rattle.demands.proofs.Results.{Upon, decided-upon, isBase, carried-without, authorization-without, location-without, location-free}
 use Rattle.demands.proofs.UnableMar.{mar-free}
 use Rattle.demands.proofs.UnableSar.{sar-free}
 
@@ -49,11 +48,14 @@ module _ (d : Dialect) (req t : List ℕ) (count : ℕ) (v : List ℕ) where
 
   pub unable-whose : Comes → (d .command ≡ 301) ⊎ (d .command ≡ 303)
   unfolding decideBy judgedBy performedBy planRead isOne
-  unable-whose e = go (readIn d req) refl e
+  unable-whose e = go (upon .seen) (upon .decides .read) (rw (upon .decides .read, upon .decides .inside) at e)
     where
-      go : (j : Judged) → readIn d req ≡ j → judgedBy inForce d req t count v j .given .verdict .result ≡ Base 5012 → (d .command ≡ 301) ⊎ (d .command ≡ 303)
-      go (bad f) r e = absurd (read-other d req f (Base 5012) refl r e)
-      go (fine seen) r e = by (eqb (d .command) 300) (eqb (d .command) 301) (eqb (d .command) 302) refl refl refl e
+      upon : Upon d req
+      upon = decided-upon d req t count v 5012 refl e
+
+      go : (seen : Seen) → readIn d req ≡ fine seen → planRead d req t count v seen .given .verdict .result ≡ Base 5012
+          → (d .command ≡ 301) ⊎ (d .command ≡ 303)
+      go seen r e = by (eqb (d .command) 300) (eqb (d .command) 301) (eqb (d .command) 302) refl refl refl e
         where
           by : (x y z : Bool) → eqb (d .command) 300 ≡ x → eqb (d .command) 301 ≡ y → eqb (d .command) 302 ≡ z
               → cond x (uarPlan t count seen) (cond y (sarPlan req t count seen) (cond z (lirPlan t count seen) (marPlan t count v seen)))
@@ -77,14 +79,16 @@ module _ (d : Dialect) (req t : List ℕ) (count : ℕ) (v : List ℕ) where
   -- B5003, likewise
   pub barred-whose : decide d req t count v .given .verdict .result ≡ Base 5003 → d .command ≡ 300
   unfolding decideBy judgedBy performedBy planRead isOne
-  barred-whose e = go (readIn d req) refl e
+  barred-whose e = go (upon .seen) (rw (upon .decides .read, upon .decides .inside) at e)
     where
+      upon : Upon d req
+      upon = decided-upon d req t count v 5003 refl e
+
       free : {A : Type 0} (p : Plan) → isBase 5003 (p .given .verdict .result) ≡ false → p .given .verdict .result ≡ Base 5003 → A
       free p n e = absurd (true≢false (sym (ap (isBase 5003) e) ∙ n))
 
-      go : (j : Judged) → readIn d req ≡ j → judgedBy inForce d req t count v j .given .verdict .result ≡ Base 5003 → d .command ≡ 300
-      go (bad f) r e = absurd (read-other d req f (Base 5003) refl r e)
-      go (fine seen) r e = by (eqb (d .command) 300) (eqb (d .command) 301) (eqb (d .command) 302) refl e
+      go : (seen : Seen) → planRead d req t count v seen .given .verdict .result ≡ Base 5003 → d .command ≡ 300
+      go seen e = by (eqb (d .command) 300) (eqb (d .command) 301) (eqb (d .command) 302) refl e
         where
           by : (x y z : Bool) → eqb (d .command) 300 ≡ x
               → cond x (uarPlan t count seen) (cond y (sarPlan req t count seen) (cond z (lirPlan t count seen) (marPlan t count v seen)))

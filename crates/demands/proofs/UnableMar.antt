@@ -6,10 +6,8 @@ use Rattle.octets.specs.Name.{same}
 use Rattle.octets.proofs.Names.{same-eq, same-yes, same-no}
 use Rattle.blocks.specs.Blocks.{blockOf}
 use Rattle.blocks.specs.Changed.{isOne}
-use Rattle.blocks.specs.declared.Checked.{Checked}
 use Rattle.blocks.specs.declared.Checked.the-variants.{Sound}
 use Rattle.table.specs.Named.{privateAt}
-use Rattle.table.specs.SoundTable.{SoundTable}
 use Rattle.vectors.specs.Chosen.{unusedHere, unusedAt, unusedOf, packed}
 use Rattle.vectors.specs.Scheme.{scheme}
 use Rattle.vectors.specs.Sendable.{countFrom}
@@ -25,8 +23,7 @@ use Rattle.reading.specs.Kinds.{userName, publicIdentity, numberAuthItems}
 use Rattle.reading.specs.Rules.{Seen}
 use Rattle.reading.specs.declared.Outcome.{Outcome}
 use Rattle.reading.specs.declared.Outcome.the-variants.{Base, Experimental}
-use Rattle.requests.specs.Judged.{Judged, bad, fine}
-use Rattle.requests.specs.Request.{readIn, dataSeen, valueSeen, schemeOf}
+use Rattle.requests.specs.Request.{dataSeen, valueSeen, schemeOf}
 use Rattle.choices.specs.Challenges.{claimOf, challengeOf}
 use Rattle.choices.specs.declared.challenge.Claimed.{Claimed}
 use Rattle.choices.specs.declared.plan.Finding.{Finding}
@@ -36,11 +33,12 @@ use Rattle.deciding.specs.Plans.{marPlan, planRead}
 use Rattle.deciding.specs.Decide.{performedBy, judgedBy, decideBy}
 use Rattle.deciding.proofs.Tests.{either}
 use Rattle.calling.specs.Lent.{Lent, dialectIn}
-use Rattle.calling.specs.Serve.{checkOf, checkValue, decision, resultOf}
+use Rattle.calling.specs.Serve.{checkOf, decision, resultOf}
+use Rattle.demands.specs.Call.{Decides}
 use Rattle.demands.specs.Sets.{Stands, Belongs}
 use Rattle.demands.specs.Unable.{AllUsed, NoneToSend}
 use Rattle.demands.proofs.Barring.{stands-found, belongs-known, none-known, lent-sound, result-counted}
-use Rattle.demands.proofs.Results.{read-other, isBase}
+use Rattle.demands.proofs.Results.{decided-upon, isBase}
 
 -- The steps, by the answers to their questions.
 module _ (a : Claimed) (k : ℕ) (sent : Sent) where
@@ -150,7 +148,7 @@ module _ (x : Lent) (count : ℕ) (sound : checkOf x ≡ Sound count) (mar : com
   abbrev t : List ℕ
   t = x .table
 
-  module _ (seen : Seen) (read : readIn (dialectIn x) (x .request) ≡ fine seen) where
+  module _ (seen : Seen) (read : Decides (dialectIn x) (x .request) seen) where
     abbrev user : List ℕ
     user = dataSeen seen userName
 
@@ -168,7 +166,7 @@ module _ (x : Lent) (count : ℕ) (sound : checkOf x ≡ Sound count) (mar : com
 
     decided-is : decision x count .given .verdict .result ≡ resultAt (findPublic t count public)
     unfolding decideBy judgedBy performedBy planRead marPlan authenticate authenticateFound
-    decided-is = rw (read, mar)
+    decided-is = rw (read .read, read .inside, mar)
 
     found-result : (f : Found) → findPublic t count public ≡ f → resultOf x ≡ resultAt f
     found-result f e = result-counted x count sound ∙ decided-is ∙ ap resultAt e
@@ -225,27 +223,24 @@ module _ (x : Lent) (count : ℕ) (sound : checkOf x ≡ Sound count) (mar : com
           (none-sent (x .vectors) user (valueSeen seen numberAuthItems) n)
 
   pub challenge-only : resultOf x ≡ Base 5012 → NoneToSend x count
-  unfolding decideBy judgedBy isOne
-  challenge-only r = go (readIn (dialectIn x) (x .request)) refl
-    where
-      go : (j : Judged) → readIn (dialectIn x) (x .request) ≡ j → NoneToSend x count
-      go (bad v) e = absurd (read-other (dialectIn x) (x .request) v (Base 5012) refl e (sym (result-counted x count sound ∙ rw e) ∙ r))
-      go (fine seen) e =
-          let f = findPublic t count (dataSeen seen publicIdentity) in
-          found-none seen e f refl (sym (found-result seen e f refl) ∙ r)
+  unfolding isOne
+  challenge-only r =
+      let u = decided-upon (dialectIn x) (x .request) t count (x .vectors) 5012 refl (sym (result-counted x count sound) ∙ r) in
+      let f = findPublic t count (dataSeen (u .seen) publicIdentity) in
+      found-none (u .seen) (u .decides) f refl (sym (found-result (u .seen) (u .decides) f refl) ∙ r)
 
   pub challenge-given : NoneToSend x count → resultOf x ≡ Base 5012
   challenge-given n = none-given (n .seen) (n .read) (n .block) (n .public) (n .private) (n .served) (n .none)
 
-  pub challenge-unknown : (seen : Seen) → readIn (dialectIn x) (x .request) ≡ fine seen
+  pub challenge-unknown : (seen : Seen) → Decides (dialectIn x) (x .request) seen
       → ((k : ℕ) → Stands t count k (dataSeen seen publicIdentity) → ⊥) ⊎ ((k : ℕ) → Belongs t count k (dataSeen seen userName) → ⊥)
       → resultOf x ≡ Experimental 5001
   challenge-unknown = unknown
 
-  pub challenge-apart : (seen : Seen) → readIn (dialectIn x) (x .request) ≡ fine seen → (k j : ℕ) → Stands t count k (dataSeen seen publicIdentity)
+  pub challenge-apart : (seen : Seen) → Decides (dialectIn x) (x .request) seen → (k j : ℕ) → Stands t count k (dataSeen seen publicIdentity)
       → Belongs t count j (dataSeen seen userName) → privateAt t k ≢ dataSeen seen userName → resultOf x ≡ Experimental 5002
   challenge-apart = apart
 
-  pub challenge-unserved : (seen : Seen) → readIn (dialectIn x) (x .request) ≡ fine seen → (k : ℕ) → Stands t count k (dataSeen seen publicIdentity)
+  pub challenge-unserved : (seen : Seen) → Decides (dialectIn x) (x .request) seen → (k : ℕ) → Stands t count k (dataSeen seen publicIdentity)
       → privateAt t k ≡ dataSeen seen userName → schemeOf seen ≢ scheme → resultOf x ≡ Experimental 5006
   challenge-unserved = unserved

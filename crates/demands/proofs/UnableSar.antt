@@ -5,10 +5,8 @@ use Rattle.octets.specs.Standard.{arith, length}
 use Rattle.octets.proofs.All.{and-left}
 use Rattle.octets.proofs.Names.{same-eq, same-refl, same-yes, same-no}
 use Rattle.blocks.specs.Changed.{isOne}
-use Rattle.blocks.specs.declared.Checked.{Checked}
 use Rattle.blocks.specs.declared.Checked.the-variants.{Sound}
 use Rattle.table.specs.Named.{privateAt}
-use Rattle.table.specs.SoundTable.{SoundTable}
 use Rattle.lookup.specs.Find.{isAt, findPublic, findPrivate}
 use Rattle.lookup.specs.declared.Found.{Found}
 use Rattle.lookup.specs.declared.Found.the-variants.{At, Nothing}
@@ -21,8 +19,7 @@ use Rattle.reading.specs.Rules.{Seen}
 use Rattle.reading.specs.declared.Outcome.{Outcome}
 use Rattle.reading.specs.declared.Outcome.the-variants.{Base, Experimental}
 use Rattle.requests.specs.Identity.{placesFrom}
-use Rattle.requests.specs.Judged.{Judged, bad, fine}
-use Rattle.requests.specs.Request.{readIn, given, dataSeen, valueSeen, identities}
+use Rattle.requests.specs.Request.{given, dataSeen, valueSeen, identities}
 use Rattle.requests.proofs.Naming.{identities-at}
 use Rattle.choices.specs.Plans.{findingOf, grant, planOf}
 use Rattle.choices.specs.Types.{typeOf, isRemoval, asksOnly, carriesUser, effectOf}
@@ -42,11 +39,12 @@ use Rattle.deciding.specs.Plans.{assignmentOf, sarPlan, planRead}
 use Rattle.deciding.specs.Decide.{performedBy, judgedBy, decideBy}
 use Rattle.deciding.proofs.Tests.{either}
 use Rattle.calling.specs.Lent.{Lent, dialectIn}
-use Rattle.calling.specs.Serve.{checkOf, checkValue, decision, resultOf}
+use Rattle.calling.specs.Serve.{checkOf, resultOf}
+use Rattle.demands.specs.Call.{Decides}
 use Rattle.demands.specs.Sets.{Stands, Belongs}
 use Rattle.demands.specs.Unable.{StoresOther}
 use Rattle.demands.proofs.Barring.{stands-found, belongs-known, none-known, lent-sound, result-counted}
-use Rattle.demands.proofs.Results.{read-other, isBase}
+use Rattle.demands.proofs.Results.{decided-upon, isBase}
 use Rattle.demands.proofs.TypeRead.{type-read, asks-zero}
 
 -- The results of a plan: those of the effects are successes.
@@ -212,7 +210,7 @@ module _ (x : Lent) (count : ℕ) (sound : checkOf x ≡ Sound count) (sar : com
   abbrev t : List ℕ
   t = x .table
 
-  module _ (seen : Seen) (read : readIn (dialectIn x) (x .request) ≡ fine seen) where
+  module _ (seen : Seen) (read : Decides (dialectIn x) (x .request) seen) where
     abbrev says : Assignment
     says = assignmentOf (x .request) t seen
 
@@ -221,7 +219,7 @@ module _ (x : Lent) (count : ℕ) (sound : checkOf x ≡ Sound count) (sar : com
 
     result-is : resultOf x ≡ assign t count says .given .verdict .result
     unfolding decideBy judgedBy performedBy planRead sarPlan
-    result-is = result-counted x count sound ∙ rw (read, sar)
+    result-is = result-counted x count sound ∙ rw (read .read, read .inside, sar)
 
     -- one identity is named
     module _ (a : List ℕ) (named : identities (bodyOf (x .request)) ≡ a ∷ []) where
@@ -279,7 +277,7 @@ module _ (x : Lent) (count : ℕ) (sound : checkOf x ≡ Sound count) (sar : com
           (known-is ∙ rw (g, known)) (own-is ∙ rw (g, same-no _ _ n))
 
   -- after X5001 and X5002
-  pub stored-unknown : (seen : Seen) → readIn (dialectIn x) (x .request) ≡ fine seen → (identity : List ℕ) → identities (bodyOf (x .request)) ≡ identity ∷ []
+  pub stored-unknown : (seen : Seen) → Decides (dialectIn x) (x .request) seen → (identity : List ℕ) → identities (bodyOf (x .request)) ≡ identity ∷ []
       → ((k : ℕ) → Stands t count k (dataOf identity) → ⊥)
       ⊎ ((given seen userName ≡ true) × ((k : ℕ) → Belongs t count k (dataSeen seen userName) → ⊥))
       → resultOf x ≡ Experimental 5001
@@ -292,7 +290,7 @@ module _ (x : Lent) (count : ℕ) (sound : checkOf x ≡ Sound count) (sar : com
       go Nothing e = unknown-result seen read a named (known-none seen read a named e)
       go (At k) e = user-unknown seen read a named k e g (none-known t count (dataSeen seen userName) none)
 
-  pub stored-apart : (seen : Seen) → readIn (dialectIn x) (x .request) ≡ fine seen → (identity : List ℕ) → identities (bodyOf (x .request)) ≡ identity ∷ []
+  pub stored-apart : (seen : Seen) → Decides (dialectIn x) (x .request) seen → (identity : List ℕ) → identities (bodyOf (x .request)) ≡ identity ∷ []
       → (k j : ℕ) → Stands t count k (dataOf identity) → given seen userName ≡ true → Belongs t count j (dataSeen seen userName)
       → privateAt t k ≢ dataSeen seen userName → resultOf x ≡ Experimental 5002
   stored-apart seen read a named k j s g b n =
@@ -320,7 +318,7 @@ module _ (x : Lent) (count : ℕ) (sound : checkOf x ≡ Sound count) (sar : com
         );
       })
 
-  stored-found : (seen : Seen) → readIn (dialectIn x) (x .request) ≡ fine seen → resultOf x ≡ Base 5012 → StoresOther x count
+  stored-found : (seen : Seen) → Decides (dialectIn x) (x .request) seen → resultOf x ≡ Base 5012 → StoresOther x count
   unfolding assignmentOf namedSurvey surveyOf findAll every storesAt
   stored-found seen read r =
       let a : Asks t count (says seen read) = plan-asks t count (says seen read) (sym (result-is seen read) ∙ r) in
@@ -337,7 +335,7 @@ module _ (x : Lent) (count : ℕ) (sound : checkOf x ≡ Sound count) (sar : com
           record {
             seen = seen;
             read = read;
-            asks = asks-zero (valueSeen seen assignmentType) (type-read (dialectIn x) (x .request) seen read) (a .asked .0);
+            asks = asks-zero (valueSeen seen assignmentType) (type-read (dialectIn x) (x .request) seen (read .read)) (a .asked .0);
             identity = identity;
             named = named;
             block = k;
@@ -347,9 +345,7 @@ module _ (x : Lent) (count : ℕ) (sound : checkOf x ≡ Sound count) (sar : com
           }
 
   pub stored-only : resultOf x ≡ Base 5012 → StoresOther x count
-  unfolding decideBy judgedBy isOne
-  stored-only r = go (readIn (dialectIn x) (x .request)) refl
-    where
-      go : (j : Judged) → readIn (dialectIn x) (x .request) ≡ j → StoresOther x count
-      go (bad v) e = absurd (read-other (dialectIn x) (x .request) v (Base 5012) refl e (sym (result-counted x count sound ∙ rw e) ∙ r))
-      go (fine seen) e = stored-found seen e r
+  unfolding isOne
+  stored-only r =
+      let u = decided-upon (dialectIn x) (x .request) t count (x .vectors) 5012 refl (sym (result-counted x count sound) ∙ r) in
+      stored-found (u .seen) (u .decides) r

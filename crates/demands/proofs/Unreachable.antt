@@ -15,11 +15,11 @@ use Rattle.diameter.specs.Message.{commandOf, bodyOf}
 use Rattle.reading.specs.Kinds.{userName, publicIdentity}
 use Rattle.reading.specs.Rules.{Seen}
 use Rattle.reading.specs.declared.Outcome.the-variants.{Base, Experimental}
-use Rattle.requests.specs.Judged.{fine}
-use Rattle.requests.specs.Request.{readIn, given, dataSeen, schemeOf, identities}
+use Rattle.requests.specs.Request.{given, dataSeen, schemeOf, identities}
 use Rattle.calling.specs.Lent.{Lent, tableOnly, dialectIn}
 use Rattle.calling.specs.Serve.{checkOf, checkValue, decisionBy, resultOf, overArea, serveBy, serve}
 use Rattle.older_rules.specs.WithBranch.{withBranch}
+use Rattle.demands.specs.Call.{Decides}
 use Rattle.demands.specs.Sets.{Stands, Belongs}
 use Rattle.demands.specs.Unable.{StoresOther, NoneToSend}
 use Rattle.older_rules.proofs.Unreachable as older
@@ -53,13 +53,13 @@ module _ (a : Lent) (count : ℕ) (sound : checkOf (tableOnly a) ≡ Sound count
   pub sar-only : resultOf (tableOnly a) ≡ Base 5012 → StoresOther (tableOnly a) count
   sar-only = sars.stored-only (tableOnly a) count sound sar
 
-  pub sar-unknown : (seen : Seen) → readIn (dialectIn a) (a .request) ≡ fine seen → (identity : List ℕ) → identities (bodyOf (a .request)) ≡ identity ∷ []
+  pub sar-unknown : (seen : Seen) → Decides (dialectIn a) (a .request) seen → (identity : List ℕ) → identities (bodyOf (a .request)) ≡ identity ∷ []
       → ((k : ℕ) → Stands (tableIn (a .table)) count k (dataOf identity) → ⊥)
       ⊎ ((given seen userName ≡ true) × ((k : ℕ) → Belongs (tableIn (a .table)) count k (dataSeen seen userName) → ⊥))
       → resultOf (tableOnly a) ≡ Experimental 5001
   sar-unknown = sars.stored-unknown (tableOnly a) count sound sar
 
-  pub sar-apart : (seen : Seen) → readIn (dialectIn a) (a .request) ≡ fine seen → (identity : List ℕ) → identities (bodyOf (a .request)) ≡ identity ∷ []
+  pub sar-apart : (seen : Seen) → Decides (dialectIn a) (a .request) seen → (identity : List ℕ) → identities (bodyOf (a .request)) ≡ identity ∷ []
       → (k j : ℕ) → Stands (tableIn (a .table)) count k (dataOf identity) → given seen userName ≡ true
       → Belongs (tableIn (a .table)) count j (dataSeen seen userName) → privateAt (tableIn (a .table)) k ≢ dataSeen seen userName
       → resultOf (tableOnly a) ≡ Experimental 5002
@@ -73,18 +73,18 @@ module _ (a : Lent) (count : ℕ) (sound : checkOf (tableOnly a) ≡ Sound count
   pub mar-only : resultOf (tableOnly a) ≡ Base 5012 → NoneToSend (tableOnly a) count
   mar-only = mars.challenge-only (tableOnly a) count sound mar
 
-  pub mar-unknown : (seen : Seen) → readIn (dialectIn a) (a .request) ≡ fine seen
+  pub mar-unknown : (seen : Seen) → Decides (dialectIn a) (a .request) seen
       → ((k : ℕ) → Stands (tableIn (a .table)) count k (dataSeen seen publicIdentity) → ⊥)
       ⊎ ((k : ℕ) → Belongs (tableIn (a .table)) count k (dataSeen seen userName) → ⊥)
       → resultOf (tableOnly a) ≡ Experimental 5001
   mar-unknown = mars.challenge-unknown (tableOnly a) count sound mar
 
-  pub mar-apart : (seen : Seen) → readIn (dialectIn a) (a .request) ≡ fine seen → (k j : ℕ)
+  pub mar-apart : (seen : Seen) → Decides (dialectIn a) (a .request) seen → (k j : ℕ)
       → Stands (tableIn (a .table)) count k (dataSeen seen publicIdentity) → Belongs (tableIn (a .table)) count j (dataSeen seen userName)
       → privateAt (tableIn (a .table)) k ≢ dataSeen seen userName → resultOf (tableOnly a) ≡ Experimental 5002
   mar-apart = mars.challenge-apart (tableOnly a) count sound mar
 
-  pub mar-unserved : (seen : Seen) → readIn (dialectIn a) (a .request) ≡ fine seen → (k : ℕ)
+  pub mar-unserved : (seen : Seen) → Decides (dialectIn a) (a .request) seen → (k : ℕ)
       → Stands (tableIn (a .table)) count k (dataSeen seen publicIdentity) → privateAt (tableIn (a .table)) k ≡ dataSeen seen userName
       → schemeOf seen ≢ scheme → resultOf (tableOnly a) ≡ Experimental 5006
   mar-unserved = mars.challenge-unserved (tableOnly a) count sound mar

@@ -7,6 +7,11 @@ use lib.ListN.{length}
 use lib.Dec.{eqb}
 use Rattle.blocks.specs.declared.Checked.the-variants.{Sound}
 use Rattle.vectors.specs.VectorFile.{SoundVectors}
+use Rattle.reading.specs.Rules.{Seen}
+use Rattle.reading.specs.declared.Dialect.{Dialect}
+use Rattle.requests.specs.Features.{beyondSet}
+use Rattle.requests.specs.Judged.{fine}
+use Rattle.requests.specs.Request.{readIn}
 use Rattle.calling.specs.Lent.{Lent}
 use Rattle.calling.specs.Trial.{Trial, anyHolds}
 use Rattle.calling.specs.Serve.{wrongSize, wrongLength, checkOf, trials, answerOf, decision}
@@ -23,6 +28,11 @@ abbrev pub Fits : Lent → Type 0
 Fits x =
     wrongSize (x .request) ≡ false → wrongLength (x .request) ≡ false → (count : ℕ) → checkOf x ≡ Sound count → SoundVectors (x .vectors)
     → length (answerTo x count) ≤ 36864
+
+-- a request in which reading finds no fault and which asks for no feature outside the set: it is decided upon
+pub record Decides (d : Dialect) (req : List ℕ) (seen : Seen) : Type 0 where
+  pub read : readIn d req ≡ fine seen
+  pub inside : beyondSet (d .terms) req ≡ false
 
 -- "Given exactly when", "tried in this order": the number is a trial's exactly when that one holds and none earlier does, and 0 exactly when none holds
 pub record Exactly (rs : List Trial) (n : ℕ) : Type 0 where

@@ -89,14 +89,16 @@ pub record FirstMarked (d : Dialect) (qs rs : List Piece) : Type 0 where
   pub marking : isMarked mark ≡ true
   pub rest : Inserted (Foreign d) back after
 
--- the header, or one of the AVPs in front, breaks a reading rule: (b) of the first, (a) and (c) to (h) of each
+-- the header, or one of the AVPs in front, breaks a reading rule: (b) of the first, (a) and (c) to (h) of each; by the header's fault
 abbrev pub isFault : Judged → Bool
 isFault (bad v) = true
 isFault (fine seen) = false
 
+abbrev pub faultBy : ℕ → Dialect → List Piece → Bool
+faultBy n d qs = not (eqb n 0) || firstOther (glue (avpsOf qs) ended) || isFault (judge d 20 (glue (avpsOf qs) ended) nothing)
+
 unfoldable pub faultIn : Dialect → List ℕ → List Piece → Bool
-faultIn d head qs =
-    not (eqb (headerFault d head) 0) || firstOther (glue (avpsOf qs) ended) || isFault (judge d 20 (glue (avpsOf qs) ended) nothing)
+faultIn d head qs = faultBy (headerFault d head) d qs
 
 -- the place behind the header and a row of AVPs
 abbrev pub behindRow : List Piece → ℕ

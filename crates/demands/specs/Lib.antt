@@ -1,4 +1,5 @@
 pub mod Call
+pub mod Features
 pub mod Frame
 pub mod Insertion
 pub mod Peers

@@ -13,11 +13,11 @@ use Rattle.diameter.specs.Avp.{dataOf}
 use Rattle.diameter.specs.Put.{Piece, Whole, All, bytesOf}
 use Rattle.reading.specs.Kinds.{kindOf, userName, publicIdentity, assignmentType}
 use Rattle.reading.specs.Rules.{Seen}
-use Rattle.requests.specs.Judged.{fine}
-use Rattle.requests.specs.Request.{readIn, dataSeen, valueSeen}
+use Rattle.requests.specs.Request.{dataSeen, valueSeen}
 use Rattle.choices.specs.Types.{typeOf, isRemoval}
 use Rattle.calling.specs.Lent.{Lent, dialectIn}
 use Rattle.reading.specs.declared.Dialect.{Dialect}
+use Rattle.demands.specs.Call.{Decides}
 use Rattle.demands.specs.Insertion.{message}
 
 -- "A set is the records of one subscription with the same nonzero number": record j shares the set of record k
@@ -60,20 +60,20 @@ pub record Belongs (t : List ℕ) (count k : ℕ) (private : List ℕ) : Type 0 
   pub to : k ≤ count
   pub name : privateAt t k ≡ private
 
--- a request in which reading finds no fault, whose Public-Identity and User-Name stand together in a record that is barred alone
+-- a request that is decided upon, whose Public-Identity and User-Name stand together in a record that is barred alone
 pub record Barred (x : Lent) (count : ℕ) : Type 0 where
   pub seen : Seen
-  pub read : readIn (dialectIn x) (x .request) ≡ fine seen
+  pub read : Decides (dialectIn x) (x .request) seen
   pub block : ℕ
   pub public : Stands (x .table) count block (dataSeen seen publicIdentity)
   pub private : privateAt (x .table) block ≡ dataSeen seen userName
   pub alone : BarredAlone (x .table) count block
 
--- a SAR in which reading finds no fault, of one of the removal types
+-- a SAR that is decided upon, of one of the removal types
 pub record Removes (d : Dialect) (req : List ℕ) : Type 0 where
   pub sar : d .command ≡ 301
   pub seen : Seen
-  pub read : readIn d req ≡ fine seen
+  pub read : Decides d req seen
   pub removal : isRemoval (typeOf (valueSeen seen assignmentType)) ≡ true
 
 -- `fewer` is `req` without one of its Public-Identities, whose AVP may stand anywhere; the length field is right in both

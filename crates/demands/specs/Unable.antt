@@ -14,16 +14,16 @@ use Rattle.diameter.specs.Avp.{dataOf}
 use Rattle.diameter.specs.Message.{bodyOf}
 use Rattle.reading.specs.Kinds.{userName, publicIdentity, numberAuthItems, serverName, assignmentType}
 use Rattle.reading.specs.Rules.{Seen}
-use Rattle.requests.specs.Judged.{fine}
-use Rattle.requests.specs.Request.{readIn, given, dataSeen, valueSeen, schemeOf, identities}
+use Rattle.requests.specs.Request.{given, dataSeen, valueSeen, schemeOf, identities}
 use Rattle.calling.specs.Lent.{Lent, dialectIn}
+use Rattle.demands.specs.Call.{Decides}
 use Rattle.demands.specs.Sets.{Stands}
 
--- "Type 0: stored name equal to the request's, B2001, else B5012": a SAR in which reading finds no fault, of type 0, of one identity, which has a record; that
+-- "Type 0: stored name equal to the request's, B2001, else B5012": a SAR that is decided upon, of type 0, of one identity, which has a record; that
 -- is the User-Name's, if one is given; and the name that it stores, if any, is not the request's
 pub record StoresOther (x : Lent) (count : ℕ) : Type 0 where
   pub seen : Seen
-  pub read : readIn (dialectIn x) (x .request) ≡ fine seen
+  pub read : Decides (dialectIn x) (x .request) seen
   pub asks : valueSeen seen assignmentType ≡ 0
   pub identity : List ℕ
   pub named : identities (bodyOf (x .request)) ≡ identity ∷ []
@@ -36,10 +36,10 @@ pub record StoresOther (x : Lent) (count : ℕ) : Type 0 where
 abbrev pub AllUsed : List ℕ → List ℕ → Type 0
 AllUsed v name = (k : ℕ) → k < length v / 512 → cardOf (blockOf v k) ≡ name → vectorOf (blockOf v k) .used ≢ 0
 
--- "B5012, after X5006": a MAR in which reading finds no fault, whose identities stand together in a record, of the scheme that is served
+-- "B5012, after X5006": a MAR that is decided upon, whose identities stand together in a record, of the scheme that is served
 pub record NoneToSend (x : Lent) (count : ℕ) : Type 0 where
   pub seen : Seen
-  pub read : readIn (dialectIn x) (x .request) ≡ fine seen
+  pub read : Decides (dialectIn x) (x .request) seen
   pub block : ℕ
   pub public : Stands (x .table) count block (dataSeen seen publicIdentity)
   pub private : privateAt (x .table) block ≡ dataSeen seen userName

@@ -1,7 +1,7 @@
 -- A message's body cut into its AVPs.
 use Prim.Native.Nat.{ℕ, zero, suc, pred}
 use mathlib.Core.List.{List, [], _∷_}
-use mathlib.Core.Bool.{Bool, true, false}
+use mathlib.Core.Bool.{Bool, true, false, _||_}
 use lib.ListN.{take}
 use Rattle.diameter.specs.Avp.{padded, avpLen, sound}
 
@@ -23,3 +23,15 @@ walkFrom zero (x ∷ t) = onSound (sound (x ∷ t)) (x ∷ t) (walkFrom (pred (p
 
 unfoldable pub walk : List ℕ → Walk
 walk t = walkFrom zero t
+
+-- some AVP of a walk passes a test: none behind a length fault is asked
+unfoldable pub someAvp : (List ℕ → Bool) → Walk → Bool
+someAvp p ended = false
+someAvp p (faulty t) = false
+someAvp p (avp a w) = p a || someAvp p w
+
+-- the walk without its first AVP
+abbrev pub behindFirst : Walk → Walk
+behindFirst ended = ended
+behindFirst (faulty t) = faulty t
+behindFirst (avp a w) = w

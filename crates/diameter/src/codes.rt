@@ -1,9 +1,12 @@
-// The codes of AVPs by the standards' names, the vendor and the application: readers and writers have them from here.
+// The codes of AVPs by the standards' names, the vendor and the applications: readers and writers have them from here.
 
 // 3GPP: the vendor of the AVPs with V, and of an Experimental-Result.
 pub const VENDOR: u32 = 10415;
 
+// The applications: Cx, and Sh.
 pub const CX: u32 = 16777216;
+
+pub const SH: u32 = 16777217;
 
 // RFC 3588, without V.
 pub const USER_NAME: u32 = 1;
@@ -74,3 +77,16 @@ pub const USER_DATA_ALREADY_AVAILABLE: u32 = 624;
 pub const CONFIDENTIALITY_KEY: u32 = 625;
 
 pub const INTEGRITY_KEY: u32 = 626;
+
+pub const SUPPORTED_FEATURES: u32 = 628;
+
+pub const FEATURE_LIST_ID: u32 = 629;
+
+pub const FEATURE_LIST: u32 = 630;
+
+// 3GPP TS 29.329, with V; its User-Data is another than 29.229's.
+pub const USER_IDENTITY: u32 = 700;
+
+pub const SH_USER_DATA: u32 = 702;
+
+pub const DATA_REFERENCE: u32 = 703;

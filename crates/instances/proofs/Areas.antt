@@ -23,7 +23,7 @@ area : List ℕ
 area = table ++ behind
 
 abbrev working : List ℕ → Lent
-working req = lent req area [] [] room (underCx 3588)
+working req = lent req area [] [] room (underCx 3588 0)
 
 -- the table is read alone
 table-in : tableIn area ≡ table

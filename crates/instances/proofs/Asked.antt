@@ -88,10 +88,10 @@ mar server number = requestOf marHead (session ∷ marRest server number) []
 
 -- what is lent with a request: the table, no profile file, no vectors or those above, the buffer
 abbrev pub asked : List ℕ → Lent
-asked req = lent req table [] [] room (underCx 3588)
+asked req = lent req table [] [] room (underCx 3588 0)
 
 abbrev pub carded : List ℕ → Lent
-carded req = lent req table [] vectors room (underCx 3588)
+carded req = lent req table [] vectors room (underCx 3588 0)
 
 -- a call that is answered by these bytes, with the place of the AVP at fault (0: none is), and leaves a table and vectors; one that blames no AVP, over no
 -- vectors; one that blames the AVP at a place, and leaves the table as it came

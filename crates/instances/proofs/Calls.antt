@@ -1,5 +1,5 @@
 -- The promise, the checks, demands 1 and 2: their hypotheses can be met by a SAR, computed.
-use Rattle.octets.specs.Standard.{ℕ, _/_, _≤_, _≡_, refl, sym, ap, _∙_, List, [], _∷_, _++_, some, Option·some-injective, true, false, inr, _≢_, arith}
+use Rattle.octets.specs.Standard.{ℕ, _/_, _≤_, _≡_, refl, sym, ap, _∙_, List, [], _∷_, _++_, some, Option·some-injective, true, false, inr, _≢_, arith, _⊎_}
 use Rattle.octets.specs.Standard.{length, getD, take, drop, eqb, lit<}
 use Rattle.blocks.specs.Blocks.{blockOf}
 use Rattle.blocks.specs.declared.Checked.{Checked}
@@ -122,7 +122,7 @@ met-1 =
 met-1-within : 116 ≤ length room
 met-1-within = rw removal-call at (demand-1-within (asked (sar s 5)) (rw removal-call))
 
-met-1-number : callNumber (serve (asked (sar s 5)) .call) ≤ 12
+met-1-number : (callNumber (serve (asked (sar s 5)) .call) ≤ 6) ⊎ (callNumber (serve (asked (sar s 5)) .call) ≡ 12)
 met-1-number = demand-1-number (asked (sar s 5))
 
 met-1-length : 116 ≡ length (answerTo (tableOnly (asked (sar s 5))) 2)
@@ -147,7 +147,7 @@ unfolding all room
 met-1-kept = demand-1-kept tooShort refl .0
 
 doubled : Lent
-doubled = lent (sar s 5) twice [] [] room (underCx 3588)
+doubled = lent (sar s 5) twice [] [] room (underCx 3588 0)
 
 doubled-refused : serve doubled .call ≡ Refused 5 2
 unfolding all doubled
@@ -161,7 +161,7 @@ met-1-block = demand-1-block doubled 2 doubled-refused
 
 -- a SAR that reads no vector, over these and over a table of no record
 spoilt : Lent
-spoilt = lent (sar s 5) (header 0 0) [] short room (underCx 3588)
+spoilt = lent (sar s 5) (header 0 0) [] short room (underCx 3588 0)
 
 short-bad : checkVectors short ≡ Bad 0
 unfolding all short
@@ -190,7 +190,7 @@ unfolding all spoilt
 met-1-sixth-kept =
     demand-1-kept spoilt (of-area spoilt 0 spoilt-sound (λ y. turnedAway y ≡ true) (held spoilt roomy sound-empty short-bad refl)) .1
 
-met-1-fifth-first : serve (lent (sar s 5) [] [] short room (underCx 3588)) .call ≡ Refused 5 0
+met-1-fifth-first : serve (lent (sar s 5) [] [] short room (underCx 3588 0)) .call ≡ Refused 5 0
 unfolding all room short tableIn sizeIn
 met-1-fifth-first = refl
 
@@ -198,7 +198,7 @@ met-1-fifth-first = refl
 met-2 : tableIn (serve (asked (sar s 5)) .table) ≡ decision (tableOnly (asked (sar s 5))) 2 .table
 met-2 = demand-2 (asked (sar s 5)) 2 sound-area taken .1
 
-other-owner : some (privateAt table 2) ≢ subscriptionOf (dialectOf (underCx 3588) (sar s 5)) (sar s 5) table 2
+other-owner : some (privateAt table 2) ≢ subscriptionOf (dialectOf (underCx 3588 0) (sar s 5)) (sar s 5) table 2
 unfolding all
 other-owner e =
     let d : _≡_ {A = List ℕ} (0x71 ∷ []) (0x70 ∷ []) = Option·some-injective _ _ e in

@@ -42,7 +42,7 @@ taken =
 met-2-spent : serve (carded (mar z 2)) .vectors ≡ decision (tableOnly (carded (mar z 2))) 2 .vectors
 met-2-spent = demand-2 (carded (mar z 2)) 2 sound-area taken .2
 
-other-owner : some (privateAt table 2) ≢ subscriptionOf (dialectOf (underCx 3588) (mar z 2)) (mar z 2) table 2
+other-owner : some (privateAt table 2) ≢ subscriptionOf (dialectOf (underCx 3588 0) (mar z 2)) (mar z 2) table 2
 unfolding all
 other-owner e =
     let d : _≡_ {A = List ℕ} (0x71 ∷ []) (0x70 ∷ []) = Option·some-injective _ _ e in
@@ -72,15 +72,15 @@ unfolding all
 met-2-vectors = demand-2-vectors (carded (sar s 5)) (λ e. let d : _≡_ {A = ℕ} 301 303 = e in omega arith)
 
 -- What is put into a SAR is of unknown kinds in a MAR too.
-foreign-plain-mar : Foreign (dialectOf (underCx 3588) marHead) plain
+foreign-plain-mar : Foreign (dialectOf (underCx 3588 0) marHead) plain
 unfolding all
 foreign-plain-mar = record { whole = record { right = refl; exact = refl; filled = refl }; plain = refl; stranger = refl }
 
-foreign-loud-mar : Foreign (dialectOf (underCx 3588) marHead) loud
+foreign-loud-mar : Foreign (dialectOf (underCx 3588 0) marHead) loud
 unfolding all
 foreign-loud-mar = record { whole = record { right = refl; exact = refl; filled = refl }; plain = refl; stranger = refl }
 
-quiet-plain-mar : Quiet (dialectOf (underCx 3588) marHead) plain
+quiet-plain-mar : Quiet (dialectOf (underCx 3588 0) marHead) plain
 unfolding all
 quiet-plain-mar = record { foreign = foreign-plain-mar; unmarked = refl }
 
@@ -88,7 +88,7 @@ quiet-plain-mar = record { foreign = foreign-plain-mar; unmarked = refl }
 quietly : List Piece
 quietly = application ∷ plain ∷ common ++ marOwn z 2
 
-put-quietly : Inserted (Quiet (dialectOf (underCx 3588) marHead)) (marRest z 2) quietly
+put-quietly : Inserted (Quiet (dialectOf (underCx 3588 0) marHead)) (marRest z 2) quietly
 unfolding all quietly
 put-quietly = keep _ (put plain quiet-plain-mar (kept (common ++ marOwn z 2)))
 
@@ -101,7 +101,7 @@ met-3-spent =
 loudly : List Piece
 loudly = marRest z 2 ++ (loud ∷ [])
 
-marked-mar : FirstMarked (dialectOf (underCx 3588) marHead) (marRest z 2) loudly
+marked-mar : FirstMarked (dialectOf (underCx 3588 0) marHead) (marRest z 2) loudly
 unfolding all loudly
 marked-mar =
     record {
@@ -129,7 +129,7 @@ met-3-unsent =
     demand-3-marked marHead refl session (marRest z 2) loudly (all-whole (session ∷ marRest z 2) refl) [] refl (lit≤ tt) (carded []) marked-mar
     refl taken
 
-longer-mar : Longer (underCx 3588) (mar z 2) (requestOf marHead (session ∷ loudly) [])
+longer-mar : Longer (underCx 3588 0) (mar z 2) (requestOf marHead (session ∷ loudly) [])
 unfolding all isWhole allWhole loudly
 longer-mar =
     record {

@@ -21,23 +21,23 @@ use Rattle.instances.proofs.Asked.{table, removed, vendor, head, sessio
 use Rattle.instances.proofs.Asked.{plain, zeroVendor, loud, all, isWhole, allWhole, all-whole, kept, of-area}
 use Rattle.instances.proofs.Calls.{sound-table, removed-so}
 
-foreign-plain : Foreign (dialectOf (underCx 3588) head) plain
+foreign-plain : Foreign (dialectOf (underCx 3588 0) head) plain
 unfolding all
 foreign-plain = record { whole = record { right = refl; exact = refl; filled = refl }; plain = refl; stranger = refl }
 
-foreign-zero : Foreign (dialectOf (underCx 3588) head) zeroVendor
+foreign-zero : Foreign (dialectOf (underCx 3588 0) head) zeroVendor
 unfolding all
 foreign-zero = record { whole = record { right = refl; exact = refl; filled = refl }; plain = refl; stranger = refl }
 
-foreign-loud : Foreign (dialectOf (underCx 3588) head) loud
+foreign-loud : Foreign (dialectOf (underCx 3588 0) head) loud
 unfolding all
 foreign-loud = record { whole = record { right = refl; exact = refl; filled = refl }; plain = refl; stranger = refl }
 
-quiet-plain : Quiet (dialectOf (underCx 3588) head) plain
+quiet-plain : Quiet (dialectOf (underCx 3588 0) head) plain
 unfolding all
 quiet-plain = record { foreign = foreign-plain; unmarked = refl }
 
-quiet-zero : Quiet (dialectOf (underCx 3588) head) zeroVendor
+quiet-zero : Quiet (dialectOf (underCx 3588 0) head) zeroVendor
 unfolding all
 quiet-zero = record { foreign = foreign-zero; unmarked = refl }
 
@@ -45,7 +45,7 @@ quiet-zero = record { foreign = foreign-zero; unmarked = refl }
 thrice : List Piece
 thrice = application ∷ plain ∷ zeroVendor ∷ common ++ (own s 5 ++ (plain ∷ []))
 
-put-thrice : Inserted (Quiet (dialectOf (underCx 3588) head)) (rest s 5) thrice
+put-thrice : Inserted (Quiet (dialectOf (underCx 3588 0) head)) (rest s 5) thrice
 unfolding all thrice
 put-thrice =
     keep _ (put plain quiet-plain (put zeroVendor quiet-zero
@@ -70,7 +70,7 @@ cut-answered =
 once : List Piece
 once = application ∷ plain ∷ common ++ own s 5
 
-put-once : Inserted (Quiet (dialectOf (underCx 3588) head)) (rest s 5) once
+put-once : Inserted (Quiet (dialectOf (underCx 3588 0) head)) (rest s 5) once
 unfolding all once
 put-once = keep _ (put plain quiet-plain (kept (common ++ own s 5)))
 
@@ -81,7 +81,7 @@ met-3-tail =
     ∙ ap (placed (placeNow (keep session put-once))) cut-answered
 
 -- one marked M between a front and a back
-markedAt : (front back : List Piece) → FirstMarked (dialectOf (underCx 3588) head) (front ++ back) (front ++ (loud ∷ back))
+markedAt : (front back : List Piece) → FirstMarked (dialectOf (underCx 3588 0) head) (front ++ back) (front ++ (loud ∷ back))
 unfolding all
 markedAt front back =
     record {
@@ -99,8 +99,8 @@ markedAt front back =
     }
 
 -- these are all cases
-met-3-cases : Inserted (Quiet (dialectOf (underCx 3588) head)) common (plain ∷ common) ⊎ FirstMarked (dialectOf (underCx 3588) head) common (plain ∷ common)
-met-3-cases = demand-3-cases (dialectOf (underCx 3588) head) common (plain ∷ common) (put plain foreign-plain (kept common))
+met-3-cases : Inserted (Quiet (dialectOf (underCx 3588 0) head)) common (plain ∷ common) ⊎ FirstMarked (dialectOf (underCx 3588 0) head) common (plain ∷ common)
+met-3-cases = demand-3-cases (dialectOf (underCx 3588 0) head) common (plain ∷ common) (put plain foreign-plain (kept common))
 
 -- a request that no refusal holds of
 let-pass : (req : List ℕ) → anyHolds (knownTrials false (Sound 2) (Sound 0) (asked req)) ≡ false → turnedAway (tableOnly (asked req)) ≡ false
@@ -121,7 +121,7 @@ met-3-marked =
 behindIt : List Piece
 behindIt = application ∷ plain ∷ common ++ own s 12
 
-markedBehind : FirstMarked (dialectOf (underCx 3588) head) (rest s 12) (behindIt ++ (loud ∷ []))
+markedBehind : FirstMarked (dialectOf (underCx 3588 0) head) (rest s 12) (behindIt ++ (loud ∷ []))
 unfolding all behindIt
 markedBehind =
     record {
@@ -200,7 +200,7 @@ quietly = application ∷ plain ∷ zeroVendor ∷ common ++ own s 5
 loudly : List Piece
 loudly = application ∷ plain ∷ loud ∷ common ++ own s 5
 
-longer-quietly : Longer (underCx 3588) (sar s 5) (requestOf head (session ∷ quietly) [])
+longer-quietly : Longer (underCx 3588 0) (sar s 5) (requestOf head (session ∷ quietly) [])
 unfolding all quietly cut-sar
 longer-quietly =
     record {
@@ -211,7 +211,7 @@ longer-quietly =
       most = lit≤ tt;
     }
 
-longer-loudly : Longer (underCx 3588) (sar s 5) (requestOf head (session ∷ loudly) [])
+longer-loudly : Longer (underCx 3588 0) (sar s 5) (requestOf head (session ∷ loudly) [])
 unfolding all loudly cut-sar
 longer-loudly =
     record {

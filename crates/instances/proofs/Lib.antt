@@ -2,6 +2,7 @@ pub mod Areas
 pub mod Asked
 pub mod Calls
 pub mod Challenges
+pub mod Features
 pub mod Insertions
 pub mod Members
 pub mod Moves

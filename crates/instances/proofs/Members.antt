@@ -43,7 +43,7 @@ abbrev three : List Piece
 three = named 0x61 ∷ named 0x62 ∷ named 0x63 ∷ []
 
 abbrev asked : List ℕ → Lent
-asked req = lent req (lines 1 s) [] [] room (underCx 3588)
+asked req = lent req (lines 1 s) [] [] room (underCx 3588 0)
 
 lines-sound : checkTable (lines 1 s) 0 ≡ Sound 3
 unfolding all family.head family.line lines
@@ -53,9 +53,15 @@ abbrev seenIn : Judged → Seen
 seenIn (bad v) = []
 seenIn (fine seen) = seen
 
-removes : Removes (dialectOf (underCx 3588) (removing three)) (removing three)
+removes : Removes (dialectOf (underCx 3588 0) (removing three)) (removing three)
 unfolding all named front own removing
-removes = record { sar = refl; seen = seenIn (readIn (dialectOf (underCx 3588) (removing three)) (removing three)); read = refl; removal = refl }
+removes =
+    record {
+      sar = refl;
+      seen = seenIn (readIn (dialectOf (underCx 3588 0) (removing three)) (removing three));
+      read = record { read = refl; inside = refl };
+      removal = refl;
+    }
 
 short : length (removing three) ≤ 16384
 unfolding all named front own removing

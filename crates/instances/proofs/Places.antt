@@ -27,14 +27,14 @@ use Rattle.instances.proofs.Asked.{base, vendor, head, session, applica
 use Rattle.instances.proofs.Asked.{of-area}
 
 abbrev bare : List ℕ → Lent
-bare req = lent req (header 0 0) [] [] room (underCx 3588)
+bare req = lent req (header 0 0) [] [] room (underCx 3588 0)
 
 -- a SAR of Session-Id and a row of AVPs
 abbrev row : List Piece → List ℕ
 row qs = requestOf head (session ∷ qs) []
 
 -- Type 12 is bad content, (h). Reading takes eight AVPs, the first at 20, and comes to the 614 at 144.
-wrongType : AtFault (dialectOf (underCx 3588) (sar s 12)) (sar s 12) 5004 144
+wrongType : AtFault (dialectOf (underCx 3588 0) (sar s 12)) (sar s 12) 5004 144
 unfolding all
 wrongType =
     record {

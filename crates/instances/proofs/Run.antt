@@ -40,11 +40,11 @@ used = vector 1 0x70 1 ++ (vector 1 0x70 5 ++ vector 1 0x70 9)
 
 -- a MAR for two vectors over a table, and the row of two: the first stores the server name and sets pending, and the second is over the table that it left
 abbrev turn : List ℕ → Turn
-turn table = record { request = authentication 2 s; table = table ++ piece; profile = []; buffer = room; terms = underCx 3588 }
+turn table = record { request = authentication 2 s; table = table ++ piece; profile = []; buffer = room; terms = underCx 3588 0 }
 
 -- the same over the table alone
 abbrev front : List ℕ → List ℕ → Lent
-front v table = lent (authentication 2 s) table [] v room (underCx 3588)
+front v table = lent (authentication 2 s) table [] v room (underCx 3588 0)
 
 abbrev row : List Turn
 row = turn (one 0 0 []) ∷ turn (waiting 0 s) ∷ []
@@ -57,13 +57,13 @@ second = lending fewer (turn (waiting 0 s))
 
 -- a call without room for an answer; a SAR that registers `a`; a MAR without AVPs
 abbrev refused : Lent
-refused = lent [] [] [] unused [] (underCx 3588)
+refused = lent [] [] [] unused [] (underCx 3588 0)
 
 abbrev registering : Lent
-registering = lent (assignment 1 s) (one 0 0 []) [] unused room (underCx 3588)
+registering = lent (assignment 1 s) (one 0 0 []) [] unused room (underCx 3588 0)
 
 abbrev empty : Lent
-empty = lent (request 303 []) (one 0 0 []) [] unused room (underCx 3588)
+empty = lent (request 303 []) (one 0 0 []) [] unused room (underCx 3588 0)
 
 -- a call that is answered by these bytes
 comes : List ℕ → List ℕ → Served

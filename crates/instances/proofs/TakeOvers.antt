@@ -2,7 +2,7 @@
 use Rattle.octets.specs.Standard.{ℕ, true, false, _≡_, refl, ap, _∙_, List, [], arith, eqb, ltb, ne-eqb, lt-ltb, lit<, lit≤}
 use Rattle.record.specs.Fields.{countOf}
 use Rattle.blocks.specs.Blocks.{blockOf}
-use Rattle.blocks.specs.declared.Checked.the-variants.{Sound, Bad}
+use Rattle.blocks.specs.declared.Checked.the-variants.{Sound}
 use Rattle.table.specs.Area.{checkArea}
 use Rattle.taking.specs.TakeOver.{takeOver}
 use Rattle.taking.specs.Torn.{lowerBlock}
@@ -28,9 +28,9 @@ use Rattle.instances.proofs.Asked.{sar, all}
 
 -- the SAR of type 5 over an area; the old one, two records of issue 5 with a block and a last piece behind them
 abbrev over : List ℕ → Lent
-over area = lent (sar s 5) area [] [] room (underCx 3588)
+over area = lent (sar s 5) area [] [] room (underCx 3588 0)
 
-passes : anyHolds (earlyTrials (underCx 3588) (sar s 5) room) ≡ false
+passes : anyHolds (earlyTrials (underCx 3588 0) (sar s 5) room) ≡ false
 unfolding all room
 passes = refl
 

@@ -31,7 +31,7 @@ pub extern "C" fn ndushavire_check(table: &[u8], profile: &[u8]) -> u64
     ensures { λ r. ⌜ CheckPromise (now (table .entry)) (now (profile .entry)) r ⌝ }
 {
     check_word(
-        calling::UNSOUND,
+        refusals::UNSOUND,
         table::area::check_area(table, profile.len()),
     )
 }
@@ -55,7 +55,7 @@ fn call_word(c: Came) -> u64
 }
 
 // "The library takes one Diameter request, the subscriber table, a profile file (read only) and an answer buffer, all lent"; "Vectors come in a third
-// lent file"; "The daemon states for each peer which applies".
+// lent file"; "The daemon states for each peer which applies"; "The server supports a set of bits .., given by the daemon at each call".
 #[no_mangle]
 pub extern "C" fn ndushavire_decide(
     request: &[u8],
@@ -64,14 +64,16 @@ pub extern "C" fn ndushavire_decide(
     vectors: &mut [u8],
     answer: &mut [u8],
     peer: u32,
+    features: u32,
 ) -> u64
     ensures { λ r. ⌜ DecidePromise
-        (lent (now (request .entry)) (now (table .entry)) (now (profile .entry)) (now (vectors .entry)) (now (answer .entry)) (underCx peer))
+        (lent (now (request .entry)) (now (table .entry)) (now (profile .entry)) (now (vectors .entry)) (now (answer .entry)) (underCx peer features))
         r (now (table .exit)) (now (vectors .exit)) (now (answer .exit)) ⌝ }
 {
     let terms = Terms {
         application: codes::CX,
         peer,
+        features,
     };
     call_word(calling::call(request, table, profile, vectors, answer, terms))
 }
@@ -86,14 +88,17 @@ pub extern "C" fn ndushavire_report(
     answer: &mut [u8],
     report: &mut [u8],
     peer: u32,
+    features: u32,
 ) -> u64
     ensures { λ r. ⌜ ReportPromise
-        (lent (now (requests .entry)) (now (table .entry)) (now (profile .entry)) (now (vectors .entry)) (now (answer .entry)) (underCx peer)) (now (report .entry))
+        (lent (now (requests .entry)) (now (table .entry)) (now (profile .entry)) (now (vectors .entry)) (now (answer .entry)) (underCx peer features))
+        (now (report .entry))
         r (now (table .exit)) (now (vectors .exit)) (now (answer .exit)) (now (report .exit)) ⌝ }
 {
     let terms = Terms {
         application: codes::CX,
         peer,
+        features,
     };
     let number = reporting::report(requests, table, profile, vectors, answer, report, terms);
     word::of(number, 0, 0)
@@ -143,8 +148,8 @@ pub extern "C" fn ndushavire_take(area: &mut [u8], fresh: &[u8], profile: &[u8])
     take_word(taking::take(area, fresh, profile.len()))
 }
 
-// Which library was linked, so that a daemon can tell it from the header that it was compiled with: 0.12.0, as NDUSHAVIRE_VERSION_NUMBER has it.
-const VERSION: u32 = 1200;
+// Which library was linked, so that a daemon can tell it from the header that it was compiled with: 0.13.0, as NDUSHAVIRE_VERSION_NUMBER has it.
+const VERSION: u32 = 1300;
 
 #[no_mangle]
 pub extern "C" fn ndushavire_version() -> u32

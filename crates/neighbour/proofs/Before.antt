@@ -226,7 +226,7 @@ module _ (mine : List ℕ) where
       twins = records-twin (tableIn (x .table)) (tableIn (y .table)) count (a .each) count (omega arith)
 
       pub row-answered : (a : Answer) → serve x .call ≡ Answered a → (b : Answer) × (serve y .call ≡ Answered b)
-      row-answered = also-answered x y count sound (a .sound) (a .request) (a .buffer) (a .vectors)
+      row-answered = also-answered x y count sound (a .sound) (a .request) (a .terms) (a .buffer) (a .vectors)
 
       pub row-sound : checkArea (y .table) (length (y .profile)) ≡ Sound count
       row-sound = a .sound

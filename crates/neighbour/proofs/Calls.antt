@@ -7,7 +7,7 @@ use Rattle.table.specs.SoundTable.{SoundTable}
 use Rattle.diameter.specs.Message.{commandOf}
 use Rattle.calling.specs.Call.{Answer, Answered}
 use Rattle.calling.specs.Lent.{Lent, tableOnly, dialectIn}
-use Rattle.calling.specs.Serve.{Served, checkOf, checkValue, answerOf, decision, refused, answered, serveTable, serve}
+use Rattle.calling.specs.Serve.{Served, checkOf, checkValue, answerOf, decision, refused, answeredBy, serveTable, serve}
 use Rattle.vectors.specs.VectorFile.{checkVectors}
 use Rattle.calling.proofs.Kept.{serve-by, serve-either}
 use Rattle.demands.specs.Call.{turnedAway}
@@ -23,7 +23,7 @@ pub record Told (z : Lent) (count : ℕ) (s : Served) (a : Answer) : Type 0 wher
   pub bytes : bytesOf s a ≡ answerOf z (decision z count)
 
 told : (z : Lent) (count : ℕ) → checkOf z ≡ Sound count → (a : Answer) → serveTable z .call ≡ Answered a → Told z count (serveTable z) a
-unfolding refused answered over
+unfolding refused answeredBy over
 told z count sound a =
     serve-by z (λ (s : Served). s .call ≡ Answered a → Told z count s a) (λ r f g e. let n : _≡_ {A = ℕ} 0 1 = cc in absurd (omega arith))
     (λ k. rw sound (λ e.
@@ -68,15 +68,15 @@ module _ (x y : Lent) (count many : ℕ) (first : checkArea (x .table) (length (
         bytes = l .bytes ∙ bytes ∙ sym (r .bytes);
       }
 
--- Where the same is asked into the same buffer, and the checks of tables and vector files say the same, one is answered if the other is.
+-- Where the same is asked on the same terms into the same buffer, and the checks of tables and vector files say the same, one is answered if the other is.
 turned-none : (z : Lent) (a : Answer) → serveTable z .call ≡ Answered a → turnedAway z ≡ false
 unfolding refused
 turned-none z a =
     serve-either z (λ (b : Bool) (s : Served). s .call ≡ Answered a → b ≡ false) (λ r e. let n : _≡_ {A = ℕ} 0 1 = cc in absurd (omega arith)) (λ e. refl)
 
 module _ (x y : Lent) (count : ℕ) (first : checkArea (x .table) (length (x .profile)) ≡ Sound count)
-    (second : checkArea (y .table) (length (y .profile)) ≡ Sound count) (request : x .request ≡ y .request) (buffer : x .buffer ≡ y .buffer)
-    (vectors : checkVectors (x .vectors) ≡ checkVectors (y .vectors)) where
+    (second : checkArea (y .table) (length (y .profile)) ≡ Sound count) (request : x .request ≡ y .request) (terms : x .terms ≡ y .terms)
+    (buffer : x .buffer ≡ y .buffer) (vectors : checkVectors (x .vectors) ≡ checkVectors (y .vectors)) where
   here : checkOf (tableOnly x) ≡ Sound count
   unfolding checkArea
   here = first
@@ -86,10 +86,10 @@ module _ (x y : Lent) (count : ℕ) (first : checkArea (x .table) (length (x .pr
   there = second
 
   turned-alike : turnedAway (tableOnly x) ≡ turnedAway (tableOnly y)
-  turned-alike = rw (here, there, request, buffer, vectors)
+  turned-alike = rw (here, there, request, terms, buffer, vectors)
 
   pub also-answered : (a : Answer) → serve x .call ≡ Answered a → (b : Answer) × (serve y .call ≡ Answered b)
-  unfolding answered
+  unfolding answeredBy
   also-answered a e = (
     record { length = length (answerOf (tableOnly y) (decision (tableOnly y) count)); place = decision (tableOnly y) count .place },
     ap (λ (s : Served). s .call) (answered-is (tableOnly y) count there (sym turned-alike ∙ turned-none (tableOnly x) a e)),

@@ -1,5 +1,5 @@
 -- Records that are the same apart from block number, issue, check word and profile start show a request the same; so do such headers.
-use Rattle.octets.specs.Standard.{ℕ, _+_, _≤_, _<_, Bool, true, false, cond, and-false, _≡_, refl, sym, _∙_, List, [], _∷_, arith, leb, length, getD, take}
+use Rattle.octets.specs.Standard.{ℕ, _+_, _≤_, _<_, Bool, true, false, cond, and-false, _≡_, refl, sym, _∙_, List, [], _∷_, map, arith, leb, length, getD, take}
 use Rattle.octets.specs.Standard.{drop, lt-leb}
 use Rattle.octets.specs.Name.{same}
 use Rattle.octets.proofs.Parts.{part-alike}
@@ -10,11 +10,12 @@ use Rattle.record.proofs.Alike.{SameRun, run-half, SameFields, fields-same}
 use Rattle.blocks.specs.Blocks.{blockOf}
 use Rattle.blocks.proofs.Blocks.{block-length}
 use Rattle.table.specs.SoundTable.{SoundTable}
-use Rattle.table.proofs.Sound.{sound-first, sound-header, sound-networks, sound-place}
+use Rattle.table.proofs.Sound.{sound-block, sound-limits, sound-first, sound-header, sound-networks, sound-place}
 use Rattle.diameter.specs.Put.{All}
-use Rattle.seen_alike.specs.Shown.{SameHeader, SameRecord, Each}
-use Rattle.neighbour.specs.Seen.{headerApart, recordApart, SameApart, SameLine, having}
-use Rattle.neighbour.proofs.Records.{Roomy}
+use Rattle.seen_alike.specs.Shown.{SameHeader, SameRecord, numbersUpTo, Each}
+use Rattle.seen_alike.proofs.Together.{Ranged, numbers-ranged}
+use Rattle.neighbour.specs.Seen.{headerApart, recordApart, SameApart, SameLine, records, having}
+use Rattle.neighbour.proofs.Records.{Roomy, having-numbers}
 
 -- bytes that are compared
 early : (i : ℕ) → 8 ≤ i → i < 400 → recordApart i ≡ false
@@ -100,3 +101,28 @@ header-shows t u count many first second like =
           λ i l.
           name-same h g size like (placeAt i) (placeAt i + 1) (omega arith) (omega arith) (omega arith) (omega (arith, sound-place t count first refl i l));
     }
+
+-- A sound record, by its number; and two tables' records with a name in a field, by their numbers: each pair is one line.
+pub line-roomy : (t : List ℕ) (count : ℕ) → SoundTable t count → (k : ℕ) → Ranged count k → Roomy (blockOf t k)
+line-roomy t count sound k r =
+    record { whole = block-length t k (sound-block t count sound k (r .1)); limits = sound-limits t count sound k (r .0) (r .1) }
+
+module _ (t u file other : List ℕ) (count many : ℕ) where
+  abbrev pub LineAt : ℕ → ℕ → Type 0
+  LineAt j k = Ranged count j × Ranged many k × SameLine file other (blockOf t j) (blockOf u k)
+
+  lines-at : (js ks : List ℕ) → All (Ranged count) js → All (Ranged many) ks
+      → Each (SameLine file other) (map (blockOf t) js) (map (blockOf u) ks) → Each LineAt js ks
+  lines-at [] [] l r e = tt
+  lines-at [] (k ∷ ks) l r e = absurd e
+  lines-at (j ∷ js) [] l r e = absurd e
+  lines-at (j ∷ js) (k ∷ ks) l r e = ((l .0, r .0, e .0), lines-at js ks (l .1) (r .1) (e .1))
+
+  pub line-rows : (field : List ℕ → List ℕ) (name : List ℕ)
+      → Each (SameLine file other) (having field name (records t count)) (having field name (records u many))
+      → Each LineAt (numbersUpTo (λ k. same (field (blockOf t k)) name) count) (numbersUpTo (λ k. same (field (blockOf u k)) name) many)
+  line-rows field name e =
+      let js = numbersUpTo (λ k. same (field (blockOf t k)) name) count in
+      let ks = numbersUpTo (λ k. same (field (blockOf u k)) name) many in
+      lines-at js ks (numbers-ranged count _ count (omega arith)) (numbers-ranged many _ many (omega arith))
+      (rw (having-numbers field name t count, having-numbers field name u many) at e)

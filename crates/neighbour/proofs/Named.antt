@@ -16,7 +16,7 @@ use Rattle.reading.specs.declared.Use.the-variants.{Needed}
 use Rattle.reading.specs.declared.Verdict.{Verdict}
 use Rattle.requests.specs.Judged.{nothing, Judged, bad, fine, onRule, judge}
 use Rattle.requests.specs.Request.{headerFault, firstOther, missing, complete, readWalk, readIn, given, dataIf, dataSeen, identities}
-use Rattle.requests.proofs.Kept.{read-needed}
+use Rattle.requests.proofs.Kept.{read-needed, read-command}
 
 bad-fine : {A : Type 0} (v : Verdict) (seen : Seen) → bad v ≡ fine seen → A
 bad-fine v seen e = let z : _≡_ {A = ℕ} 0 1 = cc in absurd (omega arith)
@@ -90,7 +90,9 @@ module _ (d : Dialect) (req : List ℕ) (seen : Seen) (read : readIn d req ≡ f
   needed : given seen publicIdentity ≡ true
   unfolding rowOf known useIn
   needed =
-      read-needed d req seen publicIdentity read (omega arith) (rw (ne-eqb (d .command) 301 n) (go (eqb (d .command) 300) (eqb (d .command) 302)))
+      let r = read-command d req seen read in
+      read-needed d req seen publicIdentity read (omega arith)
+      (rw (ne-eqb (d .command) 301 n, ne-eqb (d .command) 306 (λ z. omega (arith, z, r .1))) (go (eqb (d .command) 300) (eqb (d .command) 302)))
     where
       go : (x y : Bool) → isNeeded (cond x Needed (cond y Needed Needed)) ≡ true
       go true y = refl

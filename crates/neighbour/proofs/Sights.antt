@@ -1,13 +1,11 @@
 -- Two calls that have in common what 02 [9] asks see the same of their tables.
-use Rattle.octets.specs.Standard.{ℕ, true, _≡_, List, [], _∷_, map, arith}
+use Rattle.octets.specs.Standard.{ℕ, true, _≡_, List, [], _∷_, map}
 use Rattle.octets.specs.Name.{same}
 use Rattle.record.specs.Fields.{publicOf, privateOf}
 use Rattle.blocks.specs.Blocks.{blockOf}
-use Rattle.blocks.proofs.Blocks.{block-length}
 use Rattle.table.specs.Area.{tableIn}
 use Rattle.table.specs.Named.{publicAt, privateAt}
 use Rattle.table.specs.SoundTable.{SoundTable}
-use Rattle.table.proofs.Sound.{sound-block, sound-limits}
 use Rattle.lookup.specs.Find.{publicIs, findPublic, privateIs}
 use Rattle.lookup.specs.declared.Found.the-variants.{At}
 use Rattle.diameter.specs.Avp.{dataOf}
@@ -21,11 +19,10 @@ use Rattle.requests.specs.Request.{readIn, given, dataSeen, identities}
 use Rattle.calling.specs.Lent.{Lent, dialectIn}
 use Rattle.seen_alike.specs.Shown.{SameSight, numbersUpTo, Each, FoundAlike}
 use Rattle.seen_alike.proofs.Rows.{first-each, first-all}
-use Rattle.seen_alike.proofs.Together.{Ranged, numbers-ranged}
 use Rattle.seen_alike.proofs.Plans.{Asks}
-use Rattle.neighbour.specs.Seen.{SameLine, having, recordsOf, usersIn, SameHaving, SameSeen}
-use Rattle.neighbour.proofs.Records.{Roomy, having-numbers}
-use Rattle.neighbour.proofs.Lines.{line-shows, header-shows}
+use Rattle.neighbour.specs.Seen.{having, recordsOf, usersIn, SameHaving, SameSeen}
+use Rattle.neighbour.proofs.Records.{having-numbers}
+use Rattle.neighbour.proofs.Lines.{LineAt, line-rows, line-roomy, line-shows, header-shows}
 use Rattle.neighbour.proofs.Named.{taken-among}
 
 module _ (x y : Lent) (count many : ℕ) (first : SoundTable (tableIn (x .table)) count) (second : SoundTable (tableIn (y .table)) many) where
@@ -37,27 +34,12 @@ module _ (x y : Lent) (count many : ℕ) (first : SoundTable (tableIn (x .table)
 
   -- two records are the same line
   abbrev pub Like : ℕ → ℕ → Type 0
-  Like j k = Ranged count j × Ranged many k × SameLine (x .profile) (y .profile) (blockOf t j) (blockOf u k)
-
-  roomy : (s : List ℕ) (n : ℕ) → SoundTable s n → (k : ℕ) → Ranged n k → Roomy (blockOf s k)
-  roomy s n sound k r =
-      record { whole = block-length s k (sound-block s n sound k (r .1)); limits = sound-limits s n sound k (r .0) (r .1) }
-
-  like-rows : (js ks : List ℕ) → All (Ranged count) js → All (Ranged many) ks
-      → Each (SameLine (x .profile) (y .profile)) (map (blockOf t) js) (map (blockOf u) ks) → Each Like js ks
-  like-rows [] [] l r e = tt
-  like-rows [] (k ∷ ks) l r e = absurd e
-  like-rows (j ∷ js) [] l r e = absurd e
-  like-rows (j ∷ js) (k ∷ ks) l r e = ((l .0, r .0, e .0), like-rows js ks (l .1) (r .1) (e .1))
+  Like = LineAt t u (x .profile) (y .profile) count many
 
   -- the records with a name in a field, by their numbers
   same-rows : (field : List ℕ → List ℕ) (name : List ℕ) → SameHaving x y count many field name
       → Each Like (numbersUpTo (λ k. same (field (blockOf t k)) name) count) (numbersUpTo (λ k. same (field (blockOf u k)) name) many)
-  same-rows field name e =
-      let js = numbersUpTo (λ k. same (field (blockOf t k)) name) count in
-      let ks = numbersUpTo (λ k. same (field (blockOf u k)) name) many in
-      like-rows js ks (numbers-ranged count _ count (omega arith)) (numbers-ranged many _ many (omega arith))
-      (rw (having-numbers field name t count, having-numbers field name u many) at e)
+  same-rows = line-rows t u (x .profile) (y .profile) count many
 
   -- what is asked for
   abbrev Private : List ℕ → Type 0
@@ -102,7 +84,7 @@ module _ (x y : Lent) (count many : ℕ) (first : SoundTable (tableIn (x .table)
           header = header-shows t u count many first second (same .header);
           shown =
               λ j k l.
-              line-shows (x .profile) (y .profile) (blockOf t j) (blockOf u k) (l .2) (roomy t count first j (l .0)) (roomy u many second k (l .1));
+              line-shows (x .profile) (y .profile) (blockOf t j) (blockOf u k) (l .2) (line-roomy t count first j (l .0)) (line-roomy u many second k (l .1));
           first = λ j k l. l .0 .0;
           second = λ j k l. l .1 .0;
           found = λ name p. p .0;

@@ -8,7 +8,7 @@ use Rattle.table.specs.Area.{tableIn}
 use Rattle.table.specs.Check.{checkTable}
 use Rattle.vectors.specs.VectorFile.{checkVectors}
 use Rattle.diameter.specs.Put.{All}
-use Rattle.pen.specs.Bytes.{avpBytes, vendorBytes, vendorNumber}
+use Rattle.pen.specs.Bytes.{avpBytes, vendorBytes, numberBytes, vendorNumber}
 use Rattle.reading.specs.declared.Terms.{Terms}
 use Rattle.requests.specs.Request.{underCx}
 use Rattle.calling.specs.Call.{Answer, Answered}
@@ -96,10 +96,10 @@ unfoldable unknown : List ℕ
 unknown = request 302 (common ++ vendorBytes 601 (0x62 ∷ []))
 
 abbrev plain : Lent
-plain = lent lir (one 0 1 s) [] [] room underCx
+plain = lent lir (one 0 1 s) [] [] room (underCx 3588 0)
 
 abbrev asking-b : Lent
-asking-b = lent unknown (one 0 1 s) [] [] room underCx
+asking-b = lent unknown (one 0 1 s) [] [] room (underCx 3588 0)
 
 plain-call : serve plain .call ≡ Answered (told 132)
 unfolding all
@@ -111,9 +111,9 @@ asking-b-call = ap (λ (y : Served). y .call) (by asking-b 1 0 registered-sound 
 
 request-rest : (plain .terms ≡ asking-b .terms) × Headers plain asking-b × Publics plain asking-b 1 1 × Users plain asking-b 1 1 × Owners plain asking-b 1 1
 request-rest =
-    let l = one-table lir unknown (one 0 1 s) [] [] [] room underCx underCx 1 in (
+    let l = one-table lir unknown (one 0 1 s) [] [] [] room (underCx 3588 0) (underCx 3588 0) 1 in (
       refl,
-      one-header lir unknown (one 0 1 s) [] [] [] room underCx underCx 1,
+      one-header lir unknown (one 0 1 s) [] [] [] room (underCx 3588 0) (underCx 3588 0) 1,
       publics-of plain asking-b 1 l,
       users-of plain asking-b 1 l,
       owners-of plain asking-b 1 l,
@@ -124,7 +124,7 @@ request-apart = long (serve plain) (serve asking-b) 132 136 (λ e. omega arith)
 
 -- THE TERMS: another application, of which 302 is no command.
 abbrev elsewhere : Terms
-elsewhere = record { application = 7 }
+elsewhere = record { application = 7; peer = 3588; features = 0 }
 
 abbrev foreign : Lent
 foreign = lent lir (one 0 1 s) [] [] room elsewhere
@@ -135,9 +135,9 @@ foreign-call = ap (λ (y : Served). y .call) (by foreign 1 0 registered-sound no
 
 terms-rest : (plain .request ≡ foreign .request) × Headers plain foreign × Publics plain foreign 1 1 × Users plain foreign 1 1 × Owners plain foreign 1 1
 terms-rest =
-    let l = one-table lir lir (one 0 1 s) [] [] [] room underCx elsewhere 1 in (
+    let l = one-table lir lir (one 0 1 s) [] [] [] room (underCx 3588 0) elsewhere 1 in (
       refl,
-      one-header lir lir (one 0 1 s) [] [] [] room underCx elsewhere 1,
+      one-header lir lir (one 0 1 s) [] [] [] room (underCx 3588 0) elsewhere 1,
       publics-of plain foreign 1 l,
       users-of plain foreign 1 l,
       owners-of plain foreign 1 l,
@@ -146,12 +146,49 @@ terms-rest =
 terms-apart : SameAnswer (serve plain) (serve foreign) (told 132) (told 116) → ⊥
 terms-apart = long (serve plain) (serve foreign) 132 116 (λ e. omega arith)
 
+-- .. and another peer: two Vendor-Ids, which RFC 3588 allows and RFC 6733 does not.
+unfoldable doubled : List ℕ
+doubled =
+    let ids = avpBytes 260 (numberBytes 266 10415 ++ (numberBytes 266 10415 ++ numberBytes 258 16777216)) in
+    let base = numberBytes 277 1 ++ (avpBytes 264 (0x63 ∷ []) ++ (avpBytes 296 (0x72 ∷ []) ++ avpBytes 283 (0x72 ∷ []))) in
+    request 302 (avpBytes 263 (0x73 ∷ []) ++ (ids ++ (base ++ vendorBytes 601 (0x61 ∷ []))))
+
+abbrev older : Lent
+older = lent doubled (one 0 1 s) [] [] room (underCx 3588 0)
+
+abbrev newer : Lent
+newer = lent doubled (one 0 1 s) [] [] room (underCx 6733 0)
+
+older-call : serve older .call ≡ Answered (told 132)
+unfolding all doubled
+older-call = ap (λ (y : Served). y .call) (by older 1 0 registered-sound no-vectors refl)
+
+abbrev blamed : Answer
+blamed = record { length = 168; place = 32 }
+
+newer-call : serve newer .call ≡ Answered blamed
+unfolding all doubled
+newer-call = ap (λ (y : Served). y .call) (by newer 1 0 registered-sound no-vectors refl)
+
+peer-rest : (older .request ≡ newer .request) × Headers older newer × Publics older newer 1 1 × Users older newer 1 1 × Owners older newer 1 1
+peer-rest =
+    let l = one-table doubled doubled (one 0 1 s) [] [] [] room (underCx 3588 0) (underCx 6733 0) 1 in (
+      refl,
+      one-header doubled doubled (one 0 1 s) [] [] [] room (underCx 3588 0) (underCx 6733 0) 1,
+      publics-of older newer 1 l,
+      users-of older newer 1 l,
+      owners-of older newer 1 l,
+    )
+
+peer-apart : SameAnswer (serve older) (serve newer) (told 132) blamed → ⊥
+peer-apart e = let n : _≡_ {A = ℕ} 132 168 = ap (λ (a : Answer). a .length) (e .told) in omega arith
+
 -- THE HEADER: the host is `hss.`, four bytes long.
 unfoldable renamed : List ℕ
 renamed = checked (take 508 (set (set (set (set (set (header 1 0) 13 4) 20 0) 21 0) 22 0) 23 0)) ++ person 1 0x61 0x70 1 s
 
 abbrev hosted : Lent
-hosted = lent lir renamed [] [] room underCx
+hosted = lent lir renamed [] [] room (underCx 3588 0)
 
 renamed-sound : checkTable renamed 0 ≡ Sound 1
 unfolding all renamed
@@ -176,7 +213,7 @@ header-apart = long (serve plain) (serve hosted) 132 128 (λ e. omega arith)
 
 -- A PUBLIC IDENTITY of the request: `a` is in no record of the one table.
 abbrev empty : Lent
-empty = lent lir (header 0 0) [] [] room underCx
+empty = lent lir (header 0 0) [] [] room (underCx 3588 0)
 
 empty-sound : checkTable (header 0 0) 0 ≡ Sound 0
 unfolding all
@@ -216,10 +253,10 @@ unfoldable pair : List ℕ
 pair = header 2 0 ++ (person 1 0x61 0x70 1 s ++ person 2 0x62 0x71 0 [])
 
 abbrev without-q : Lent
-without-q = lent unmatched (one 0 1 s) [] [] room underCx
+without-q = lent unmatched (one 0 1 s) [] [] room (underCx 3588 0)
 
 abbrev with-q : Lent
-with-q = lent unmatched pair [] [] room underCx
+with-q = lent unmatched pair [] [] room (underCx 3588 0)
 
 pair-sound : checkTable pair 0 ≡ Sound 2
 unfolding all pair
@@ -290,10 +327,10 @@ unfoldable served : List ℕ
 served = header 2 0 ++ (subscriber 1 0x61 0x70 0 4 [] ++ person 2 0x63 0x70 1 s)
 
 abbrev unserved-lent : Lent
-unserved-lent = lent lir alone [] [] room underCx
+unserved-lent = lent lir alone [] [] room (underCx 3588 0)
 
 abbrev served-lent : Lent
-served-lent = lent lir served [] [] room underCx
+served-lent = lent lir served [] [] room (underCx 3588 0)
 
 alone-sound : checkTable alone 0 ≡ Sound 1
 unfolding all alone
@@ -352,10 +389,10 @@ unfoldable wanting : List ℕ
 wanting = request 301 (common ++ (vendorBytes 601 (0x61 ∷ []) ++ (vendorBytes 602 s ++ (vendorNumber 614 1 ++ vendorNumber 624 0))))
 
 abbrev profile-one : Lent
-profile-one = lent wanting profiled (1 ∷ []) [] room underCx
+profile-one = lent wanting profiled (1 ∷ []) [] room (underCx 3588 0)
 
 abbrev profile-two : Lent
-profile-two = lent wanting profiled (2 ∷ []) [] room underCx
+profile-two = lent wanting profiled (2 ∷ []) [] room (underCx 3588 0)
 
 profiled-sound : checkTable profiled 1 ≡ Sound 1
 unfolding all profiled
@@ -386,10 +423,10 @@ profile-apart = byte (serve profile-one) (serve profile-two) 144 144 140 profile
 
 -- THE COMMAND: an authentication request reads the vectors besides.
 abbrev cardless : Lent
-cardless = lent (authentication 1 s) (one 0 1 s) [] [] room underCx
+cardless = lent (authentication 1 s) (one 0 1 s) [] [] room (underCx 3588 0)
 
 abbrev carded : Lent
-carded = lent (authentication 1 s) (one 0 1 s) [] (vector 0 0x70 0x20) room underCx
+carded = lent (authentication 1 s) (one 0 1 s) [] (vector 0 0x70 0x20) room (underCx 3588 0)
 
 card-sound : checkVectors (vector 0 0x70 0x20) ≡ Sound 1
 unfolding all
@@ -405,11 +442,11 @@ carded-call = ap (λ (y : Served). y .call) (by carded 1 1 registered-sound card
 
 command-rest : SameSeen cardless carded 1 1
 command-rest =
-    let l = one-table (authentication 1 s) (authentication 1 s) (one 0 1 s) [] [] (vector 0 0x70 0x20) room underCx underCx 1 in
+    let l = one-table (authentication 1 s) (authentication 1 s) (one 0 1 s) [] [] (vector 0 0x70 0x20) room (underCx 3588 0) (underCx 3588 0) 1 in
     record {
       request = refl;
       terms = refl;
-      header = one-header (authentication 1 s) (authentication 1 s) (one 0 1 s) [] [] (vector 0 0x70 0x20) room underCx underCx 1;
+      header = one-header (authentication 1 s) (authentication 1 s) (one 0 1 s) [] [] (vector 0 0x70 0x20) room (underCx 3588 0) (underCx 3588 0) 1;
       publics = publics-of cardless carded 1 l;
       users = users-of cardless carded 1 l;
       owners = owners-of cardless carded 1 l;

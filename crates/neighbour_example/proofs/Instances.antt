@@ -129,7 +129,7 @@ seen-removal =
 
 -- THE CALLS, computed by their lengths.
 abbrev over-second : List ℕ → Lent
-over-second req = lent req second others (vector 0 0x71 0x20) large underCx
+over-second req = lent req second others (vector 0 0x71 0x20) large (underCx 3588 0)
 
 abbrev told : ℕ → Answer
 told n = record { length = n; place = 0 }
@@ -289,7 +289,7 @@ unfoldable registering : List ℕ
 registering = request 301 (common ++ (vendorBytes 601 (0x62 ∷ []) ++ (vendorBytes 602 z ++ (vendorNumber 614 1 ++ vendorNumber 624 1))))
 
 abbrev turn : Turn
-turn = record { request = registering; buffer = room; terms = underCx }
+turn = record { request = registering; buffer = room; terms = underCx 3588 0 }
 
 abbrev before : Lent
 before = turnOver (here uar) turn

@@ -70,10 +70,10 @@ unfoldable pub large : List ℕ
 large = replicate 36865 7
 
 abbrev pub here : List ℕ → Lent
-here req = lent req first profiles [] room underCx
+here req = lent req first profiles [] room (underCx 3588 0)
 
 abbrev pub there : List ℕ → Lent
-there req = lent req (second ++ behind) others (vector 0 0x71 0x20) large underCx
+there req = lent req (second ++ behind) others (vector 0 0x71 0x20) large (underCx 3588 0)
 
 -- a UAR of type 0 for `a`; a SAR of type 1 for `c` that asks for user data; a LIR for `a`; a removal of `c` and `e`
 unfoldable pub uar : List ℕ

@@ -1,3 +1,4 @@
+pub mod Features
 pub mod Rules
 pub mod Sets
 pub mod Unreachable

@@ -32,9 +32,9 @@ use Rattle.assignment.proofs.Members as asked
 -- WITHOUT SETS. Over a table without sets every call comes to what it came to before, with the same table, vectors and buffer afterwards.
 pub without-sets : (x : Lent) → NoSets (x .table) → serveTableBy beforeSets x ≡ serveTable x
 without-sets x none =
-    rules-same beforeSets inForce x (check-is (x .table) none (length (x .profile)))
+    rules-same beforeSets inForce x (check-is (x .table) none (length (x .profile))) (λ g. refl)
     (λ count e.
-    decided-same beforeSets inForce x count (plan-is (x .table) none count (dialectIn x) (x .request) (x .vectors))
+    decided-same beforeSets inForce x count refl refl (plan-is (x .table) none count (dialectIn x) (x .request) (x .vectors))
     (carried-is (x .table) none count (x .request)))
 
 -- A sound table of the first edition is one, so that it is untouched.

@@ -108,10 +108,10 @@ module _ (t : List ℕ) (count : ℕ) (sound : SoundTable t count) where
 pub decided-alike : (x : Lent) (count : ℕ) → checkTable (x .table) (length (x .profile)) ≡ Sound count
     → decisionBy withBranch x count ≡ decision x count
 decided-alike x count e =
-    decided-same withBranch inForce x count (plan-same (x .table) count (record { file = length (x .profile); checked = e }) (dialectIn x)
+    decided-same withBranch inForce x count refl refl (plan-same (x .table) count (record { file = length (x .profile); checked = e }) (dialectIn x)
     (x .request) (x .vectors))
     (λ s d. refl)
 
 -- "Answers are the same for every input."
 pub same-for-every-input : (x : Lent) → serveTableBy withBranch x ≡ serveTable x
-same-for-every-input x = rules-same withBranch inForce x refl (decided-alike x)
+same-for-every-input x = rules-same withBranch inForce x refl (λ g. refl) (decided-alike x)

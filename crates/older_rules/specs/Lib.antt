@@ -1,2 +1,3 @@
 pub mod WithBranch
+pub mod WithoutFeatures
 pub mod WithoutSets

@@ -16,7 +16,8 @@ use Rattle.reading.specs.Rules.{Seen}
 use Rattle.reading.specs.declared.Outcome.{Outcome}
 use Rattle.reading.specs.declared.Outcome.the-variants.{Base, Experimental}
 use Rattle.reading.specs.declared.Dialect.{Dialect}
-use Rattle.requests.specs.Request.{dataSeen, valueSeen}
+use Rattle.requests.specs.Features.{beyondSet}
+use Rattle.requests.specs.Request.{readIn, dataSeen, valueSeen}
 use Rattle.choices.specs.Plans.{only}
 use Rattle.choices.specs.declared.Given.{Given}
 use Rattle.choices.specs.declared.choice.Asked.{Asked}
@@ -27,6 +28,7 @@ use Rattle.choices.specs.declared.plan.Plan.{Plan}
 use Rattle.questions.specs.Authorization.{askedOf}
 use Rattle.questions.specs.Carried.{carried}
 use Rattle.questions.specs.Location.{soughtOf}
+use Rattle.answering.specs.Answer.{answerBytes}
 use Rattle.deciding.specs.Plans.{sarPlan, marPlan}
 use Rattle.deciding.specs.Rules.{Rules}
 use Rattle.deciding.specs.Deeds.{carriedOut}
@@ -76,4 +78,4 @@ oldPlan d req t count v seen =
     (marPlan t count v seen)))
 
 abbrev pub withBranch : Rules
-withBranch = record { check = checkTable; plan = oldPlan; carry = carriedOut }
+withBranch = record { check = checkTable; read = readIn; beyond = beyondSet; plan = oldPlan; carry = carriedOut; answer = answerBytes }

@@ -22,7 +22,8 @@ use Rattle.rewrite.specs.Renew.{settled, challenged}
 use Rattle.reading.specs.Kinds.{userName, publicIdentity, visitedNetwork, serverName, authorizationType}
 use Rattle.reading.specs.Rules.{Seen}
 use Rattle.reading.specs.declared.Dialect.{Dialect}
-use Rattle.requests.specs.Request.{dataSeen, valueSeen}
+use Rattle.requests.specs.Features.{beyondSet}
+use Rattle.requests.specs.Request.{readIn, dataSeen, valueSeen}
 use Rattle.choices.specs.Choices.{authorization}
 use Rattle.choices.specs.Plans.{only}
 use Rattle.choices.specs.declared.Given.{Given}
@@ -34,6 +35,7 @@ use Rattle.questions.specs.Authorization.{askedAt}
 use Rattle.lookup.specs.Find.{blockFound}
 use Rattle.questions.specs.Carried.{carried}
 use Rattle.assignment.specs.Assignment.{storedName, plannedRecords}
+use Rattle.answering.specs.Answer.{answerBytes}
 use Rattle.deciding.specs.Plans.{assignmentOf, sarPlan, lirPlan, marPlan}
 use Rattle.deciding.specs.Rules.{Rules}
 
@@ -77,4 +79,4 @@ planBefore d req t count v seen =
     (marPlan t count v seen)))
 
 abbrev pub beforeSets : Rules
-beforeSets = record { check = checkBefore; plan = planBefore; carry = carriedOutBefore }
+beforeSets = record { check = checkBefore; read = readIn; beyond = beyondSet; plan = planBefore; carry = carriedOutBefore; answer = answerBytes }

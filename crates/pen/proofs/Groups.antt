@@ -3,8 +3,8 @@ use Rattle.octets.specs.Standard.{ℕ, zero, suc, _+_, _-_, _*_, _≤_, _<_, ad
 use Rattle.octets.specs.Standard.{append-assoc, append-nil, ltb, length, take, drop, length-append, length-take, length-drop}
 use Rattle.octets.specs.Run.{over, Wrote}
 use Rattle.octets.proofs.Writes.{lent, back, then, named}
-use Rattle.pen.specs.Bytes.{padding, headBytes, vendorHead, copied, vendorBytes, numberBytes, group, vendorGroup}
-use Rattle.pen.specs.Groups.{vendorApplication, experimental, failed, failedSize, vendorNumbers, words, capabilities, capabilitiesSize}
+use Rattle.pen.specs.Bytes.{padding, headBytes, vendorHead, copied, vendorBytes, numberBytes, plainHead, plainNumber, group, vendorGroup}
+use Rattle.pen.specs.Groups.{vendorApplication, experimental, failed, failedSize, vendorNumbers, words, capabilities, capabilitiesSize, ownFeatures}
 use Rattle.pen.proofs.Sizes.{there-length, there-room, copied-length, vendorHead-length, group-length, vendorGroup-length}
 use Rattle.pen.proofs.Writers.{wrote-there, wrote-none}
 
@@ -99,3 +99,15 @@ unfolding capabilities vendorGroup
 wrote-capabilities m o j k a c h p q s =
     let l : 12 + length (vendorNumbers 604 m (words m) ++ vendorNumbers 605 o (words o)) ≡ capabilitiesSize j k = omega (arith, members-length m o) in
     wrote-there (words m + words o) _ (omega arith) (named (append-assoc (vendorHead 603 (capabilitiesSize j k)) _ _ ∙ rw (l, a, c)) refl (then (then p q) s))
+
+-- the server's own list: a header of 12 bytes, a number of 12 and two of 16
+pub features-length : (set : ℕ) → length (ownFeatures set) ≡ 56
+unfolding ownFeatures plainHead plainNumber numberBytes
+features-length set = refl
+
+pub wrote-features : (set : ℕ) {b xs ys zs us : List ℕ} {r s t : ℕ} → Wrote (plainHead 628 56) b xs 12 → Wrote (numberBytes 266 10415) (lent 12 xs) ys r
+    → Wrote (plainNumber 629 1) (lent (12 + r) (back 12 xs ys)) zs s
+    → Wrote (plainNumber 630 set) (lent (12 + r + s) (back (12 + r) (back 12 xs ys) zs)) us t
+    → Wrote (ownFeatures set) b (back (12 + r + s) (back (12 + r) (back 12 xs ys) zs) us) (12 + r + s + t)
+unfolding ownFeatures plainHead plainNumber numberBytes
+wrote-features set p q s t = then (then (then p q) s) t

@@ -3,7 +3,7 @@ use Prim.Native.Nat.{ℕ, zero, suc, _+_, _*_, _/_}
 use mathlib.Core.List.{List, [], _++_}
 use lib.ListN.{length, take, drop}
 use lib.Dec.{ltb}
-use Rattle.pen.specs.Bytes.{copied, copiedSize, numberBytes, vendorHead, group, vendorGroup, ifThere}
+use Rattle.pen.specs.Bytes.{copied, copiedSize, numberBytes, vendorHead, plainHead, plainNumber, group, vendorGroup, ifThere}
 
 -- "260 (266, 258)"; "Experimental-Result 297 (266, 298)"; "Failed-AVP 279"
 unfoldable pub vendorApplication : ℕ → List ℕ
@@ -32,3 +32,7 @@ capabilities m o = ifThere (ltb 0 (words m + words o)) (vendorGroup 603 (vendorN
 
 abbrev pub capabilitiesSize : ℕ → ℕ → ℕ
 capabilitiesSize m o = 12 + 16 * m + 16 * o
+
+-- "the server's own list .., with flags 0x80 on 628, 629, 630": a set of "bits of list 1 of vendor 10415"
+unfoldable pub ownFeatures : ℕ → List ℕ
+ownFeatures set = plainHead 628 56 ++ (numberBytes 266 10415 ++ (plainNumber 629 1 ++ plainNumber 630 set))

@@ -7,6 +7,7 @@ ghost use lib.ListN.{length};
 ghost use Rattle.octets.specs.Run.{Wrote};
 ghost use Rattle.pen.specs.Bytes.{numberBytes, group};
 ghost use Rattle.pen.specs.Groups.{vendorApplication, experimental, failed, failedSize, vendorNumbers, words, capabilities, capabilitiesSize};
+ghost use Rattle.pen.specs.Groups.{ownFeatures};
 
 // A group of Vendor-Id 10415 and one number more.
 fn put_of_vendor(out: &mut [u8], code: u32, member: u32, n: u32) -> usize
@@ -103,4 +104,15 @@ pub fn put_capabilities(out: &mut [u8], mandatory: &[u8], optional: &[u8]) -> us
         return 0;
     }
     put_members(out, mandatory, optional, m, o)
+}
+
+// Supported-Features: the server's own list, of list 1.
+pub fn put_features(out: &mut [u8], set: u32) -> usize
+    requires { ⌜ 56 ≤ length (now out) ⌝ }
+    ensures { λ r. ⌜ (r ≡ 56) × Wrote (ownFeatures set) (now (out .entry)) (now (out .exit)) r ⌝ }
+{
+    crate::put_plain_head(out, codes::SUPPORTED_FEATURES, 56);
+    let a = 12 + crate::put_number(&mut out[12..], codes::VENDOR_ID, codes::VENDOR);
+    let b = a + crate::put_plain_number(&mut out[a..], codes::FEATURE_LIST_ID, 1);
+    b + crate::put_plain_number(&mut out[b..], codes::FEATURE_LIST, set)
 }

@@ -9,12 +9,15 @@ ghost use lib.ListN.{length};
 ghost use lib.Dec.{ltb};
 ghost use Rattle.octets.specs.Run.{Wrote};
 ghost use Rattle.pen.specs.Bytes.{wordBytes, headBytes, vendorHead, copied, copiedSize, avpBytes, avpSize, vendorBytes, vendorSize};
-ghost use Rattle.pen.specs.Bytes.{numberBytes, vendorNumber, ifThere};
+ghost use Rattle.pen.specs.Bytes.{numberBytes, vendorNumber, plainHead, plainNumber, ifThere};
 
 // "Own AVPs have flags 0x40, or 0xC0 with vendor 10415"
 pub const FLAGS: u8 = 64;
 
 pub const VENDOR_FLAGS: u8 = 192;
+
+// "with flags 0x80 on 628, 629, 630"
+pub const PLAIN_FLAGS: u8 = 128;
 
 fn put_word(out: &mut [u8], n: u32)
     requires { ⌜ 4 ≤ length (now out) ⌝ }
@@ -47,6 +50,15 @@ pub fn put_vendor_head(out: &mut [u8], code: u32, len: usize)
     ensures { λ _. ⌜ Wrote (vendorHead code len) (now (out .entry)) (now (out .exit)) 12 ⌝ }
 {
     put_head(out, code, VENDOR_FLAGS, len);
+    put_word(&mut out[8..], codes::VENDOR);
+}
+
+// The same without M.
+pub fn put_plain_head(out: &mut [u8], code: u32, len: usize)
+    requires { ⌜ 12 ≤ length (now out) ⌝ }
+    ensures { λ _. ⌜ Wrote (plainHead code len) (now (out .entry)) (now (out .exit)) 12 ⌝ }
+{
+    put_head(out, code, PLAIN_FLAGS, len);
     put_word(&mut out[8..], codes::VENDOR);
 }
 
@@ -93,6 +105,16 @@ pub fn put_vendor_number(out: &mut [u8], code: u32, n: u32) -> usize
     ensures { λ r. ⌜ (r ≡ 16) × Wrote (vendorNumber code n) (now (out .entry)) (now (out .exit)) r ⌝ }
 {
     put_vendor_head(out, code, 16);
+    put_word(&mut out[12..], n);
+    16
+}
+
+// The same without M.
+pub fn put_plain_number(out: &mut [u8], code: u32, n: u32) -> usize
+    requires { ⌜ 16 ≤ length (now out) ⌝ }
+    ensures { λ r. ⌜ (r ≡ 16) × Wrote (plainNumber code n) (now (out .entry)) (now (out .exit)) r ⌝ }
+{
+    put_plain_head(out, code, 16);
     put_word(&mut out[12..], n);
     16
 }

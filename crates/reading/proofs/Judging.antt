@@ -16,7 +16,7 @@ use Rattle.reading.specs.declared.Kind.{Kind}
 use Rattle.reading.specs.declared.Ruled.{Ruled}
 use Rattle.reading.specs.declared.Ruled.the-variants.{Taken, Skipped, Fault}
 use Rattle.reading.specs.declared.Use.{Use}
-use Rattle.reading.specs.declared.Use.the-variants.{Unknown, Unnamed, Needed, Optional, Repeated}
+use Rattle.reading.specs.declared.Use.the-variants.{Unknown, Unnamed, Needed, Optional, Repeated, Several}
 use Rattle.reading.specs.Kinds.{kindOf, rowOf, useIn}
 use Rattle.reading.specs.Contents.{faultUnless, numberFault, plainFault}
 use Rattle.reading.specs.Groups.{groupFault}
@@ -110,6 +110,10 @@ module _ (u : Use) (earlier : Bool) (flags fault : ℕ) where
     pub rule-repeated : (r : Ruled) → u ≡ Repeated → r ≡ ofContent fault → r ≡ ruleBy u earlier flags fault
     unfolding ruleBy
     rule-repeated r e d = d ∙ rw (plain, e)
+
+    pub rule-several : (r : Ruled) → u ≡ Several → r ≡ ofContent fault → r ≡ ruleBy u earlier flags fault
+    unfolding ruleBy
+    rule-several r e d = d ∙ rw (plain, e)
 
 -- the AVP of a kind that stands at the kind's place
 getD-within : {X Y : Type 0} (f : X → Y) (l : List X) (i : ℕ) (d : Y) (e : X) → i < length l → getD (map f l) i d ≡ f (getD l i e)

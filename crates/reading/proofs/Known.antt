@@ -33,6 +33,9 @@ use Rattle.reading.specs.Kinds.{
   destinationHost,
   proxyInfo,
   routeRecord,
+  supportedFeatures,
+  userIdentity,
+  dataReference,
 }
 
 -- the columns of the table
@@ -49,9 +52,13 @@ module _ (d : Dialect) (k : Kind) where
   unfolding useIn
   in-lir h g e = rw e
 
-  pub in-mar : (d .command ≡ 300 → ⊥) → (d .command ≡ 301 → ⊥) → (d .command ≡ 302 → ⊥) → k .mar ≡ useIn d k
+  pub in-udr : (d .command ≡ 300 → ⊥) → (d .command ≡ 301 → ⊥) → (d .command ≡ 302 → ⊥) → d .command ≡ 306 → k .udr ≡ useIn d k
   unfolding useIn
-  in-mar h g f = rw (ne-eqb _ _ h, ne-eqb _ _ g, ne-eqb _ _ f)
+  in-udr h g f e = rw e
+
+  pub in-mar : (d .command ≡ 300 → ⊥) → (d .command ≡ 301 → ⊥) → (d .command ≡ 302 → ⊥) → (d .command ≡ 306 → ⊥) → k .mar ≡ useIn d k
+  unfolding useIn
+  in-mar h g f e = rw (ne-eqb _ _ h, ne-eqb _ _ g, ne-eqb _ _ f, ne-eqb _ _ e)
 
 -- the row of a number, and of a number that is no known kind's
 pub row-is : (n k : ℕ) {r : Kind} → k ≡ n → r ≡ rowOf n → r ≡ rowOf k
@@ -63,14 +70,15 @@ above h e = omega arith
 pub row-past : (k : ℕ) {r : Kind} → r ≡ unknown → (k ≡ sessionId → ⊥) → (k ≡ application → ⊥) → (k ≡ sessionState → ⊥) → (k ≡ originHost → ⊥)
     → (k ≡ originRealm → ⊥) → (k ≡ destinationRealm → ⊥) → (k ≡ userName → ⊥) → (k ≡ publicIdentity → ⊥) → (k ≡ visitedNetwork → ⊥)
     → (k ≡ authDataItem → ⊥) → (k ≡ numberAuthItems → ⊥) → (k ≡ serverName → ⊥) → (k ≡ assignmentType → ⊥) → (k ≡ dataAvailable → ⊥)
-    → (k ≡ authorizationType → ⊥) → (k ≡ destinationHost → ⊥) → (k ≡ proxyInfo → ⊥) → (k ≡ routeRecord → ⊥) → r ≡ rowOf k
+    → (k ≡ authorizationType → ⊥) → (k ≡ destinationHost → ⊥) → (k ≡ proxyInfo → ⊥) → (k ≡ routeRecord → ⊥)
+    → (k ≡ supportedFeatures → ⊥) → (k ≡ userIdentity → ⊥) → (k ≡ dataReference → ⊥) → r ≡ rowOf k
 unfolding rowOf known
-row-past zero e a b c d f g h i j l m n o p q s t u = e
-row-past (suc k) e a b c d f g h i j l m n o p q s t u =
+row-past zero e a b c d f g h i j l m n o p q s t u v w x = e
+row-past (suc k) e a b c d f g h i j l m n o p q s t u v w x =
     let first : sessionId ≤ suc k = omega arith in
     let low : suc destinationRealm ≤ suc k = above (above (above (above (above (above first a) b) c) d) f) g in
     let middle : suc serverName ≤ suc k = above (above (above (above (above (above low h) i) j) l) m) n in
-    let past : kinds ≤ suc k = above (above (above (above (above (above middle o) p) q) s) t) u in
+    let past : kinds ≤ suc k = above (above (above (above (above (above (above (above (above middle o) p) q) s) t) u) v) w) x in
     e ∙ sym (List·getD-eq-default (unknown ∷ known) unknown past)
 
 -- a code that is none of them
@@ -80,9 +88,9 @@ unfolding kindBy kindFrom known
 base-none code a b c d e f g h i j = simp (ne-eqb, and-false)
 
 pub vendor-none : (code : ℕ) → (code ≡ 601 → ⊥) → (code ≡ 600 → ⊥) → (code ≡ 612 → ⊥) → (code ≡ 607 → ⊥) → (code ≡ 602 → ⊥) → (code ≡ 614 → ⊥)
-    → (code ≡ 624 → ⊥) → (code ≡ 623 → ⊥) → 0 ≡ kindBy 128 10415 code
+    → (code ≡ 624 → ⊥) → (code ≡ 623 → ⊥) → (code ≡ 628 → ⊥) → (code ≡ 700 → ⊥) → (code ≡ 703 → ⊥) → 0 ≡ kindBy 128 10415 code
 unfolding kindBy kindFrom known
-vendor-none code a b c d e f g h = simp (ne-eqb, and-false)
+vendor-none code a b c d e f g h i j k = simp (ne-eqb, and-false)
 
 -- without V; with V and the vendor; with V and another
 module _ (flags vendor code : ℕ) {r : ℕ} where

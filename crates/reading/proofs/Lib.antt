@@ -1,4 +1,5 @@
 pub mod Alone
+pub mod Asking
 pub mod Judging
 pub mod Known
 pub mod Members

@@ -15,9 +15,11 @@ use Rattle.reading.specs.declared.Content.the-variants.{Free, Number}
 use Rattle.reading.specs.declared.Dialect.{Dialect}
 use Rattle.reading.specs.declared.Member.{Member}
 use Rattle.reading.specs.declared.group.Group.{Group}
-use Rattle.reading.specs.declared.group.Group.the-variants.{Application, AuthDataItem}
+use Rattle.reading.specs.declared.group.Group.the-variants.{Application, AuthDataItem, SupportedFeatures, UserIdentity}
 use Rattle.reading.specs.Contents.{plainFault}
-use Rattle.reading.specs.Groups.{member, nobody, vendorId, applicationMembers, itemMembers, membersOf, isOf, fits, unlike, isOther, onlyOf}
+use Rattle.reading.specs.Groups.{member, nobody, anyNumber, vendorId, applicationMembers, soleMember, itemMembers, identityMembers, featureMembers}
+use Rattle.reading.specs.Groups.{membersOf}
+use Rattle.reading.specs.Groups.{isOf, fits, unlike, isOther, onlyOf}
 use Rattle.reading.specs.Groups.{membersFitting, enough, enoughAt, gathers, rfc6733, tooOften, groupFault}
 use Rattle.diameter.specs.declared.Read.the-variants as read
 
@@ -28,9 +30,17 @@ module _ (d : Dialect) (g : Group) where
     unfolding membersOf
     member-application e m = m ∙ rw e
 
-    pub member-item : g ≡ AuthDataItem → r ≡ getD itemMembers k nobody → r ≡ getD (membersOf d g) k nobody
-    unfolding membersOf
+    pub member-item : g ≡ AuthDataItem → r ≡ getD (soleMember 608) k nobody → r ≡ getD (membersOf d g) k nobody
+    unfolding membersOf itemMembers
     member-item e m = m ∙ rw e
+
+    pub member-identity : g ≡ UserIdentity → r ≡ getD (soleMember 601) k nobody → r ≡ getD (membersOf d g) k nobody
+    unfolding membersOf identityMembers
+    member-identity e m = m ∙ rw e
+
+    pub member-feature : g ≡ SupportedFeatures → r ≡ getD featureMembers k nobody → r ≡ getD (membersOf d g) k nobody
+    unfolding membersOf
+    member-feature e m = m ∙ rw e
 
   pub size-application : g ≡ Application → 2 ≡ length (membersOf d g)
   unfolding membersOf applicationMembers
@@ -39,6 +49,14 @@ module _ (d : Dialect) (g : Group) where
   pub size-item : g ≡ AuthDataItem → 1 ≡ length (membersOf d g)
   unfolding membersOf itemMembers
   size-item e = rw e
+
+  pub size-feature : g ≡ SupportedFeatures → 3 ≡ length (membersOf d g)
+  unfolding membersOf featureMembers
+  size-feature e = rw e
+
+  pub size-identity : g ≡ UserIdentity → 1 ≡ length (membersOf d g)
+  unfolding membersOf identityMembers
+  size-identity e = rw e
 
 -- 260's
 module _ (application k : ℕ) {r : Member} where
@@ -54,15 +72,31 @@ module _ (application k : ℕ) {r : Member} where
   unfolding applicationMembers
   no-member e f m = let past : 2 ≤ k = omega arith in m ∙ sym (List·getD-eq-default (applicationMembers application) nobody past)
 
--- 612's
-module _ (k : ℕ) {r : Member} where
-  pub only-member : k ≡ 0 → r ≡ member 608 10415 Free false → r ≡ getD itemMembers k nobody
-  unfolding itemMembers
+-- 612's and 700's
+module _ (code k : ℕ) {r : Member} where
+  pub only-member : k ≡ 0 → r ≡ member code 10415 Free false → r ≡ getD (soleMember code) k nobody
   only-member e m = m ∙ rw e
 
-  pub no-second : (k ≡ 0 → ⊥) → r ≡ nobody → r ≡ getD itemMembers k nobody
-  unfolding itemMembers
-  no-second e m = let past : 1 ≤ k = omega arith in m ∙ sym (List·getD-eq-default itemMembers nobody past)
+  pub no-second : (k ≡ 0 → ⊥) → r ≡ nobody → r ≡ getD (soleMember code) k nobody
+  no-second e m = let past : 1 ≤ k = omega arith in m ∙ sym (List·getD-eq-default (soleMember code) nobody past)
+
+-- 628's
+module _ (k : ℕ) {r : Member} where
+  pub vendor-member : k ≡ 0 → r ≡ member 266 0 anyNumber false → r ≡ getD featureMembers k nobody
+  unfolding featureMembers
+  vendor-member e m = m ∙ rw e
+
+  pub list-member : k ≡ 1 → r ≡ member 629 10415 anyNumber false → r ≡ getD featureMembers k nobody
+  unfolding featureMembers
+  list-member e m = m ∙ rw e
+
+  pub bits-member : k ≡ 2 → r ≡ member 630 10415 anyNumber false → r ≡ getD featureMembers k nobody
+  unfolding featureMembers
+  bits-member e m = m ∙ rw e
+
+  pub no-fourth : (k ≡ 0 → ⊥) → (k ≡ 1 → ⊥) → (k ≡ 2 → ⊥) → r ≡ nobody → r ≡ getD featureMembers k nobody
+  unfolding featureMembers
+  no-fourth e f g m = let past : 3 ≤ k = omega arith in m ∙ sym (List·getD-eq-default featureMembers nobody past)
 
 -- the loops over the table
 module _ (ms : List Member) (k : ℕ) (m : Member) (em : m ≡ getD ms k nobody) where
@@ -165,6 +199,14 @@ module _ (d : Dialect) (g : Group) where
   pub often-item : (w : Walk) → g ≡ AuthDataItem → false ≡ tooOften d g w
   unfolding tooOften
   often-item w e = rw e
+
+  pub often-feature : (w : Walk) → g ≡ SupportedFeatures → false ≡ tooOften d g w
+  unfolding tooOften
+  often-feature w e = rw e
+
+  pub often-identity : (w : Walk) → g ≡ UserIdentity → false ≡ tooOften d g w
+  unfolding tooOften
+  often-identity w e = rw e
 
   module _ (w : Walk) (x : Bool) (ex : x ≡ gathers (membersOf d g) w) where
     pub group-bad : x ≡ false → 5004 ≡ groupFault d g w

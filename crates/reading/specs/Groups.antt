@@ -12,7 +12,7 @@ use Rattle.reading.specs.declared.Content.the-variants.{Free, Number}
 use Rattle.reading.specs.declared.Dialect.{Dialect}
 use Rattle.reading.specs.declared.Member.{Member}
 use Rattle.reading.specs.declared.group.Group.{Group}
-use Rattle.reading.specs.declared.group.Group.the-variants.{Application, AuthDataItem}
+use Rattle.reading.specs.declared.group.Group.the-variants.{Application, AuthDataItem, SupportedFeatures, UserIdentity}
 use Rattle.reading.specs.Contents.{plainFault}
 
 -- a member: its code and vendor (0: without V), its content, and whether it may come more than once
@@ -30,13 +30,28 @@ vendorId = member 266 0 (Number 10415 10415) true
 unfoldable pub applicationMembers : ℕ → List Member
 applicationMembers application = vendorId ∷ member 258 0 (Number application application) false ∷ []
 
--- "In a request, 612 holds exactly one 608 and nothing else": a SIP-Authentication-Scheme of any bytes
+-- "In a request, 612 holds exactly one 608 and nothing else": a SIP-Authentication-Scheme of any bytes; "the one Public-Identity that 700 must hold"
+abbrev pub soleMember : ℕ → List Member
+soleMember code = member code 10415 Free false ∷ []
+
 unfoldable pub itemMembers : List Member
-itemMembers = member 608 10415 Free false ∷ []
+itemMembers = soleMember 608
+
+unfoldable pub identityMembers : List Member
+identityMembers = soleMember 601
+
+-- "Supported-Features (628: Vendor-Id, Feature-List-ID 629, Feature-List 630)"; "A 628 holds these three 4-byte members once each"
+abbrev pub anyNumber : Content
+anyNumber = Number 0 4294967295
+
+unfoldable pub featureMembers : List Member
+featureMembers = member 266 0 anyNumber false ∷ member 629 10415 anyNumber false ∷ member 630 10415 anyNumber false ∷ []
 
 unfoldable pub membersOf : Dialect → Group → List Member
 membersOf d Application = applicationMembers (d .terms .application)
 membersOf d AuthDataItem = itemMembers
+membersOf d SupportedFeatures = featureMembers
+membersOf d UserIdentity = identityMembers
 
 -- an AVP of such a code and vendor; such a member: it passes (c) and holds what it must
 unfoldable pub isOf : ℕ → ℕ → List ℕ → Bool
@@ -83,6 +98,8 @@ rfc6733 = 6733
 unfoldable pub tooOften : Dialect → Group → Walk → Bool
 tooOften d Application w = eqb (d .terms .peer) rfc6733 && ltb 1 (membersFitting vendorId w)
 tooOften d AuthDataItem w = false
+tooOften d SupportedFeatures w = false
+tooOften d UserIdentity w = false
 
 -- "B5009 with the whole 260 as Failed-AVP under RFC 6733 only, when its members are otherwise as document 01 wants": they are judged before they are counted
 unfoldable pub groupFault : Dialect → Group → Walk → ℕ

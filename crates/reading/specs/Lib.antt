@@ -1,4 +1,5 @@
 pub mod Contents
+pub mod Features
 pub mod Groups
 pub mod Kinds
 pub mod Places

@@ -14,7 +14,7 @@ use Rattle.reading.specs.declared.Dialect.{Dialect}
 use Rattle.reading.specs.declared.Ruled.{Ruled}
 use Rattle.reading.specs.declared.Ruled.the-variants.{Taken, Skipped, Fault}
 use Rattle.reading.specs.declared.Use.{Use}
-use Rattle.reading.specs.declared.Use.the-variants.{Unknown, Unnamed, Needed, Optional, Repeated}
+use Rattle.reading.specs.declared.Use.the-variants.{Unknown, Unnamed, Needed, Optional, Repeated, Several}
 use Rattle.reading.specs.Kinds.{kinds, kindOf, rowOf, useOf}
 use Rattle.reading.specs.Contents.{plainFault}
 use Rattle.reading.specs.Groups.{groupFault}
@@ -47,6 +47,7 @@ ofUse Unnamed earlier flags fault = Skipped
 ofUse Needed earlier flags fault = ofOnce earlier fault
 ofUse Optional earlier flags fault = ofOnce earlier fault
 ofUse Repeated earlier flags fault = ofContent fault
+ofUse Several earlier flags fault = ofContent fault
 
 -- What (c) to (h) say of one AVP, by its kind's use, by whether one of its kind came earlier, by its flags and by the fault of what it holds
 unfoldable pub ruleBy : Use → Bool → ℕ → ℕ → Ruled

@@ -1,4 +1,4 @@
-// X: Experimental-Results of vendor 10415, by the names of 3GPP TS 29.229.
+// X: Experimental-Results of vendor 10415, by the names of 3GPP TS 29.229 and, of the last, 29.329.
 pub const FIRST_REGISTRATION: u32 = 2001;
 
 pub const SUBSEQUENT_REGISTRATION: u32 = 2002;
@@ -22,3 +22,5 @@ pub const AUTH_SCHEME_NOT_SUPPORTED: u32 = 5006;
 pub const IN_ASSIGNMENT_TYPE: u32 = 5007;
 
 pub const FEATURE_UNSUPPORTED: u32 = 5011;
+
+pub const USER_DATA_NOT_RECOGNIZED: u32 = 5100;

@@ -16,13 +16,15 @@ ghost use lib.ListN.{length, getD};
 ghost use Rattle.diameter.specs.Avp.{dataOf};
 ghost use Rattle.diameter.specs.Reader.{between, ownOf, Here};
 ghost use Rattle.diameter.specs.Walk.{walk};
-ghost use Rattle.reading.specs.Groups.{member, nobody, vendorId, applicationMembers, itemMembers, membersOf};
+ghost use Rattle.reading.specs.Groups.{member, nobody, vendorId, applicationMembers, soleMember, featureMembers, membersOf};
 ghost use Rattle.reading.specs.Groups.{isOf, fits, isOther, onlyOf, membersFitting, enough, gathers, tooOften, groupFault};
 
-// The groups that a request's AVPs may be: 260 and 612.
+// The groups that a request's AVPs may be: 260, 612, 628 and 700.
 pub enum Group {
     Application,
     AuthDataItem,
+    SupportedFeatures,
+    UserIdentity,
 }
 
 // A member: code, vendor (0: without V), content, and whether it may come more than once.
@@ -65,15 +67,32 @@ fn application_member(application: u32, k: usize) -> Member
     }
 }
 
-// "612 holds exactly one 608 and nothing else"
-fn item_member(k: usize) -> Member
-    ensures { λ r. ⌜ r ≡ getD itemMembers k nobody ⌝ }
+// "612 holds exactly one 608 and nothing else"; "the one Public-Identity that 700 must hold"
+fn sole_member(code: u32, k: usize) -> Member
+    ensures { λ r. ⌜ r ≡ getD (soleMember code) k nobody ⌝ }
 {
     match k {
-        0 => member(
-            codes::SIP_AUTHENTICATION_SCHEME,
+        0 => member(code, codes::VENDOR, Content::Free, false),
+        _ => member(0, 0, Content::Free, false),
+    }
+}
+
+// "A 628 holds these three 4-byte members once each"
+fn feature_member(k: usize) -> Member
+    ensures { λ r. ⌜ r ≡ getD featureMembers k nobody ⌝ }
+{
+    match k {
+        0 => member(codes::VENDOR_ID, 0, Content::Number(0, 4294967295), false),
+        1 => member(
+            codes::FEATURE_LIST_ID,
             codes::VENDOR,
-            Content::Free,
+            Content::Number(0, 4294967295),
+            false,
+        ),
+        2 => member(
+            codes::FEATURE_LIST,
+            codes::VENDOR,
+            Content::Number(0, 4294967295),
             false,
         ),
         _ => member(0, 0, Content::Free, false),
@@ -87,7 +106,9 @@ fn member_of(d: Dialect, g: Group, k: usize) -> Member
     let terms = d.terms;
     match g {
         Group::Application => application_member(terms.application, k),
-        Group::AuthDataItem => item_member(k),
+        Group::AuthDataItem => sole_member(codes::SIP_AUTHENTICATION_SCHEME, k),
+        Group::SupportedFeatures => feature_member(k),
+        Group::UserIdentity => sole_member(codes::PUBLIC_IDENTITY, k),
     }
 }
 
@@ -97,11 +118,13 @@ fn size_of(d: Dialect, g: Group) -> usize
     match g {
         Group::Application => 2,
         Group::AuthDataItem => 1,
+        Group::SupportedFeatures => 3,
+        Group::UserIdentity => 1,
     }
 }
 
 // Whether an AVP has such a code and vendor: "V with vendor 0" is none.
-fn is_of(code: u32, vendor: u32, s: &[u8], a: Avp) -> bool
+pub fn is_of(code: u32, vendor: u32, s: &[u8], a: Avp) -> bool
     requires { ⌜ Here (now s) a ⌝ }
     ensures { λ r. ⌜ r ≡ isOf code vendor (ownOf (now (s .entry)) a) ⌝ }
 {
@@ -187,7 +210,7 @@ fn enough(m: Member, s: &[u8], span: Span) -> bool
 }
 
 // Whether an AVP's data are the members of a group.
-fn gathers(d: Dialect, g: Group, s: &[u8], a: Avp) -> bool
+pub fn gathers(d: Dialect, g: Group, s: &[u8], a: Avp) -> bool
     requires { ⌜ Here (now s) a ⌝ }
     ensures { λ r. ⌜ r ≡ gathers (membersOf d g) (walk (dataOf (ownOf (now (s .entry)) a))) ⌝ }
 {
@@ -214,6 +237,8 @@ fn too_often(d: Dialect, g: Group, s: &[u8], a: Avp) -> bool
             (terms.peer == RFC_6733) & (1 < count_of(vendor_id(), s, span))
         }
         Group::AuthDataItem => false,
+        Group::SupportedFeatures => false,
+        Group::UserIdentity => false,
     }
 }
 

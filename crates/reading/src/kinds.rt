@@ -47,8 +47,14 @@ pub const PROXY_INFO: usize = 17;
 
 pub const ROUTE_RECORD: usize = 18;
 
+pub const SUPPORTED_FEATURES: usize = 19;
+
+pub const USER_IDENTITY: usize = 20;
+
+pub const DATA_REFERENCE: usize = 21;
+
 // How many kinds there are, the unknown one among them.
-pub const KINDS: usize = 19;
+pub const KINDS: usize = 22;
 
 // The uses, as the table's columns have them.
 const X: Use = Use::Unknown;
@@ -61,15 +67,26 @@ const O: Use = Use::Optional;
 
 const R: Use = Use::Repeated;
 
+const S: Use = Use::Several;
+
 // The limits of a Server-Name: those of a record's.
 const SERVER: Content = Content::Sized(1, 96);
 
 // A 4-byte number of any value.
 const NUMBER: Content = Content::Number(0, 4294967295);
 
-// A row of the table: code, vendor, content, and the use in a UAR, in a SAR, in a LIR and in a MAR.
-fn row(code: u32, vendor: u32, content: Content, uar: Use, sar: Use, lir: Use, mar: Use) -> Kind
-    ensures { λ r. ⌜ r ≡ row code vendor content uar sar lir mar ⌝ }
+// A row of the table: code, vendor, content, and the use in a UAR, in a SAR, in a LIR, in a MAR and in a UDR.
+fn row(
+    code: u32,
+    vendor: u32,
+    content: Content,
+    uar: Use,
+    sar: Use,
+    lir: Use,
+    mar: Use,
+    udr: Use,
+) -> Kind
+    ensures { λ r. ⌜ r ≡ row code vendor content uar sar lir mar udr ⌝ }
 {
     Kind {
         code,
@@ -79,19 +96,21 @@ fn row(code: u32, vendor: u32, content: Content, uar: Use, sar: Use, lir: Use, m
         sar,
         lir,
         mar,
+        udr,
     }
 }
 
-// "Known, vendor 0 without V: .. With V and 10415: .." and "Needed everywhere: .. UAR then .. SAR .. LIR ..", and 003's grammar of a MAR: the row of a kind.
+// "Known, vendor 0 without V: .. With V and 10415: .." and "Needed everywhere: .. UAR then .. SAR .. LIR ..", 003's grammar of a MAR, and 001's of a UDR: the row of a kind.
 pub fn row_of(k: usize) -> Kind
     ensures { λ r. ⌜ r ≡ rowOf k ⌝ }
 {
     match k {
-        SESSION_ID => row(codes::SESSION_ID, 0, Content::Free, N, N, N, N),
+        SESSION_ID => row(codes::SESSION_ID, 0, Content::Free, N, N, N, N, N),
         APPLICATION => row(
             codes::VENDOR_SPECIFIC_APPLICATION_ID,
             0,
             Content::Members(Group::Application),
+            N,
             N,
             N,
             N,
@@ -105,11 +124,12 @@ pub fn row_of(k: usize) -> Kind
             N,
             N,
             N,
+            N,
         ),
-        ORIGIN_HOST => row(codes::ORIGIN_HOST, 0, Content::Free, N, N, N, N),
-        ORIGIN_REALM => row(codes::ORIGIN_REALM, 0, Content::Free, N, N, N, N),
-        DESTINATION_REALM => row(codes::DESTINATION_REALM, 0, Content::Free, N, N, N, N),
-        USER_NAME => row(codes::USER_NAME, 0, Content::Free, N, O, U, N),
+        ORIGIN_HOST => row(codes::ORIGIN_HOST, 0, Content::Free, N, N, N, N, N),
+        ORIGIN_REALM => row(codes::ORIGIN_REALM, 0, Content::Free, N, N, N, N, N),
+        DESTINATION_REALM => row(codes::DESTINATION_REALM, 0, Content::Free, N, N, N, N, N),
+        USER_NAME => row(codes::USER_NAME, 0, Content::Free, N, O, U, N, O),
         PUBLIC_IDENTITY => row(
             codes::PUBLIC_IDENTITY,
             codes::VENDOR,
@@ -118,6 +138,7 @@ pub fn row_of(k: usize) -> Kind
             R,
             N,
             N,
+            X,
         ),
         VISITED_NETWORK => row(
             codes::VISITED_NETWORK_IDENTIFIER,
@@ -127,6 +148,7 @@ pub fn row_of(k: usize) -> Kind
             U,
             U,
             U,
+            X,
         ),
         AUTH_DATA_ITEM => row(
             codes::SIP_AUTH_DATA_ITEM,
@@ -136,6 +158,7 @@ pub fn row_of(k: usize) -> Kind
             U,
             U,
             N,
+            X,
         ),
         NUMBER_AUTH_ITEMS => row(
             codes::SIP_NUMBER_AUTH_ITEMS,
@@ -145,8 +168,9 @@ pub fn row_of(k: usize) -> Kind
             U,
             U,
             N,
+            X,
         ),
-        SERVER_NAME => row(codes::SERVER_NAME, codes::VENDOR, SERVER, U, N, U, N),
+        SERVER_NAME => row(codes::SERVER_NAME, codes::VENDOR, SERVER, U, N, U, N, X),
         ASSIGNMENT_TYPE => row(
             codes::SERVER_ASSIGNMENT_TYPE,
             codes::VENDOR,
@@ -155,6 +179,7 @@ pub fn row_of(k: usize) -> Kind
             N,
             U,
             U,
+            X,
         ),
         DATA_AVAILABLE => row(
             codes::USER_DATA_ALREADY_AVAILABLE,
@@ -164,6 +189,7 @@ pub fn row_of(k: usize) -> Kind
             N,
             U,
             U,
+            X,
         ),
         AUTHORIZATION_TYPE => row(
             codes::USER_AUTHORIZATION_TYPE,
@@ -173,11 +199,33 @@ pub fn row_of(k: usize) -> Kind
             U,
             U,
             U,
+            X,
         ),
-        DESTINATION_HOST => row(codes::DESTINATION_HOST, 0, Content::Free, O, O, O, O),
-        PROXY_INFO => row(codes::PROXY_INFO, 0, Content::Free, R, R, R, R),
-        ROUTE_RECORD => row(codes::ROUTE_RECORD, 0, Content::Free, R, R, R, R),
-        _ => row(0, 0, Content::Free, X, X, X, X),
+        DESTINATION_HOST => row(codes::DESTINATION_HOST, 0, Content::Free, O, O, O, O, O),
+        PROXY_INFO => row(codes::PROXY_INFO, 0, Content::Free, R, R, R, R, R),
+        ROUTE_RECORD => row(codes::ROUTE_RECORD, 0, Content::Free, R, R, R, R, R),
+        SUPPORTED_FEATURES => row(
+            codes::SUPPORTED_FEATURES,
+            codes::VENDOR,
+            Content::Members(Group::SupportedFeatures),
+            R,
+            R,
+            R,
+            R,
+            U,
+        ),
+        USER_IDENTITY => row(
+            codes::USER_IDENTITY,
+            codes::VENDOR,
+            Content::Members(Group::UserIdentity),
+            X,
+            X,
+            X,
+            X,
+            N,
+        ),
+        DATA_REFERENCE => row(codes::DATA_REFERENCE, codes::VENDOR, NUMBER, X, X, X, X, S),
+        _ => row(0, 0, Content::Free, X, X, X, X, X),
     }
 }
 
@@ -213,6 +261,9 @@ fn vendor_kind(code: u32) -> usize
         codes::SERVER_ASSIGNMENT_TYPE => ASSIGNMENT_TYPE,
         codes::USER_DATA_ALREADY_AVAILABLE => DATA_AVAILABLE,
         codes::USER_AUTHORIZATION_TYPE => AUTHORIZATION_TYPE,
+        codes::SUPPORTED_FEATURES => SUPPORTED_FEATURES,
+        codes::USER_IDENTITY => USER_IDENTITY,
+        codes::DATA_REFERENCE => DATA_REFERENCE,
         _ => 0,
     }
 }
@@ -251,6 +302,9 @@ pub fn use_in(d: Dialect, k: Kind) -> Use
     if d.command == crate::LIR {
         return k.lir;
     }
+    if d.command == crate::UDR {
+        return k.udr;
+    }
     k.mar
 }
 
@@ -263,5 +317,6 @@ pub fn needed(u: Use) -> bool
         Use::Needed => true,
         Use::Optional => false,
         Use::Repeated => false,
+        Use::Several => true,
     }
 }

@@ -2,6 +2,7 @@
 
 pub mod base;
 pub mod experimental;
+pub mod features;
 pub mod group;
 pub mod kinds;
 pub mod plain;
@@ -11,10 +12,12 @@ use crate::group::Group;
 ghost use mathlib.Core.Path.{_≡_};
 ghost use Rattle.reading.specs.Verdicts.{numberOf};
 
-// What a call is served under: the application that is spoken, and the edition of the base standard that the peer follows.
+// What a call is served under: the application that is spoken, the edition of the base standard that the peer follows, and the features that the server
+// supports, a bit for each.
 pub struct Terms {
     pub application: u32,
     pub peer: u32,
+    pub features: u32,
 }
 
 // The two editions: RFC 3588 and RFC 6733.
@@ -36,6 +39,8 @@ pub const SAR: usize = 301;
 pub const LIR: usize = 302;
 
 pub const MAR: usize = 303;
+
+pub const UDR: usize = 306;
 
 // "B is a base Result-Code, X an Experimental-Result of vendor 10415. They share numbers and never stand for one another."
 pub enum Outcome {
@@ -68,13 +73,14 @@ pub enum Content {
     Members(Group),
 }
 
-// What a dialect makes of a kind of AVP.
+// What a dialect makes of a kind of AVP. Of the kinds that it names: needed once, optional and once, any number, needed and any number.
 pub enum Use {
     Unknown,
     Unnamed,
     Needed,
     Optional,
     Repeated,
+    Several,
 }
 
 // A kind of AVP: its code and vendor, its content, and what each command makes of it.
@@ -86,6 +92,7 @@ pub struct Kind {
     pub sar: Use,
     pub lir: Use,
     pub mar: Use,
+    pub udr: Use,
 }
 
 // A member of a group: its code and vendor (0: without V), its content, and whether it may come more than once.

@@ -71,6 +71,7 @@ pub fn rule_by(u: Use, earlier: bool, flags: u8, fault: u32) -> Ruled
         Use::Needed => of_once(earlier, fault),
         Use::Optional => of_once(earlier, fault),
         Use::Repeated => of_content(fault),
+        Use::Several => of_content(fault),
     }
 }
 

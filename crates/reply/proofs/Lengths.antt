@@ -1,28 +1,22 @@
 -- How long the pieces of an answer are at the most.
-use Rattle.octets.specs.Standard.{ℕ, _+_, _≤_, List, _≡_, arith, ltb, length, length-append, length-take, length-drop}
-use Rattle.record.specs.Fields.{hostOf, realmOf, privateOf, publicOf, serverOf, mandatoryOf, optionalOf}
-use Rattle.blocks.specs.Blocks.{blockOf, ofBlock}
+use Rattle.octets.specs.Standard.{ℕ, _+_, _≤_, List, arith, ltb, length, length-append}
+use Rattle.record.specs.Fields.{privateOf, publicOf, serverOf, mandatoryOf, optionalOf}
+use Rattle.blocks.specs.Blocks.{ofBlock}
 use Rattle.table.specs.SoundTable.{SoundTable}
 use Rattle.pen.specs.Bytes.{copiedSize, avpBytes, vendorBytes}
-use Rattle.pen.proofs.Sizes.{copied-length, avp-length, vendor-length, number-length, there-length}
-use Rattle.pen.proofs.Groups.{application-length, experimental-length, capabilities-length}
-use Rattle.reading.specs.declared.Outcome.{Outcome}
+use Rattle.pen.proofs.Sizes.{avp-length, vendor-length, there-length}
+use Rattle.pen.specs.Groups.{ownFeatures}
+use Rattle.pen.proofs.Groups.{capabilities-length, features-length}
 use Rattle.reading.specs.declared.Terms.{Terms}
-use Rattle.reading.specs.declared.Outcome.the-variants.{Base, Experimental}
+use Rattle.requests.specs.Features.{listCalled}
 use Rattle.choices.specs.declared.Given.{Given}
 use Rattle.parts.specs.Profile.{profileAt}
-use Rattle.parts.proofs.Fields.{part-length, host-length, realm-length, user-field, public-field, server-field, mandatory-field, optional-field}
-use Rattle.reply.specs.Pieces.{resultBytes, namedBytes, vendorNamed, frontBytes, originBytes, identityBytes, nameBytes, dataBytes, headerBytes}
+use Rattle.parts.proofs.Fields.{part-length, user-field, public-field, server-field, mandatory-field, optional-field}
+use Rattle.reply.specs.Pieces.{namedBytes, vendorNamed, listBytes, identityBytes, nameBytes, dataBytes}
 
-result-length : (o : Outcome) → length (resultBytes o) ≤ 32
-unfolding resultBytes
-result-length (Base n) = omega (arith, number-length 268 n)
-result-length (Experimental n) = omega (arith, experimental-length n)
-
-pub front-length : (terms : Terms) (session : List ℕ) (o : Outcome) → length (frontBytes terms session o) ≤ 76 + copiedSize (length session)
-unfolding frontBytes
-front-length terms session o =
-    simp length-append (omega (arith, copied-length session, application-length (terms .application), result-length o, number-length 277 1))
+pub list-length : (terms : Terms) (req : List ℕ) → length (listBytes terms req) ≤ 56
+unfolding listBytes
+list-length terms req = omega (arith, there-length (listCalled terms req) (ownFeatures (terms .features)), features-length (terms .features))
 
 named-length : (code : ℕ) (d : List ℕ) → length (namedBytes code d) ≤ 8 + copiedSize (length d)
 named-length code d = omega (arith, there-length (ltb 0 (length d)) (avpBytes code d), avp-length code d)
@@ -30,18 +24,8 @@ named-length code d = omega (arith, there-length (ltb 0 (length d)) (avpBytes co
 vendor-named-length : (code : ℕ) (d : List ℕ) → length (vendorNamed code d) ≤ 12 + copiedSize (length d)
 vendor-named-length code d = omega (arith, there-length (ltb 0 (length d)) (vendorBytes code d), vendor-length code d)
 
-pub header-length : (req : List ℕ) (o : Outcome) (n : ℕ) → 20 ≤ length req → length (headerBytes req o n) ≡ 20
-unfolding headerBytes
-header-length req o n h = simp (length-take, length-drop) (omega arith)
-
 -- What the table's limits bound, whatever blocks are named.
 module _ (t : List ℕ) (count : ℕ) (s : SoundTable t count) where
-  pub origin-length : length (originBytes (blockOf t 0)) ≤ 144
-  unfolding originBytes
-  origin-length =
-      let h = blockOf t 0 in
-      simp length-append (omega (arith, avp-length 264 (hostOf h), avp-length 296 (realmOf h), host-length t count s, realm-length t count s))
-
   pub names-length : (g : Given) → length (nameBytes t g) ≤ 384
   unfolding nameBytes identityBytes
   names-length g =

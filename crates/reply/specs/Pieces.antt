@@ -1,27 +1,23 @@
--- "The answer" in pieces: its header, what every answer has, and what a decision gives, which names blocks by their numbers.
-use Prim.Native.Nat.{ℕ, _+_, _*_, _/_, _%_}
-use mathlib.Core.List.{List, [], _∷_, _++_}
-use mathlib.Core.Bool.{cond}
-use lib.ListN.{length, getD, take, drop}
-use lib.Dec.{eqb, ltb}
-use Rattle.record.specs.Fields.{hostOf, realmOf, privateOf, publicOf, serverOf, mandatoryOf, optionalOf}
+-- "The answer" in pieces: what every answer of the Cx server has, and what a decision gives, which names blocks by their numbers.
+use Prim.Native.Nat.{ℕ}
+use mathlib.Core.List.{List, _++_}
+use lib.ListN.{length}
+use lib.Dec.{ltb}
+use Rattle.record.specs.Fields.{privateOf, publicOf, serverOf, mandatoryOf, optionalOf}
 use Rattle.blocks.specs.Blocks.{blockOf, ofBlock}
-use Rattle.pen.specs.Bytes.{copied, avpBytes, vendorBytes, numberBytes, ifThere}
-use Rattle.pen.specs.Groups.{vendorApplication, experimental, capabilities}
+use Rattle.pen.specs.Bytes.{avpBytes, vendorBytes, ifThere}
+use Rattle.pen.specs.Groups.{capabilities, ownFeatures}
 use Rattle.diameter.specs.Message.{bodyOf}
+use Rattle.requests.specs.Features.{listCalled}
 use Rattle.requests.specs.Request.{sessionOf}
-use Rattle.reading.specs.Verdicts.{numberOf}
 use Rattle.reading.specs.declared.Outcome.{Outcome}
-use Rattle.reading.specs.declared.Outcome.the-variants.{Base, Experimental}
 use Rattle.reading.specs.declared.Terms.{Terms}
 use Rattle.choices.specs.declared.Given.{Given}
+unfoldable pub use Rattle.envelope.specs.Front.{resultBytes, frontBytes, originBytes}
+unfoldable pub use Rattle.envelope.specs.Header.{flagsOf, headerBytes}
+pub use Rattle.envelope.specs.Header.{startBytes}
 use Rattle.items.specs.Items.{sentBytes}
 use Rattle.parts.specs.Profile.{profileAt}
-
--- "Result-Code 268 or Experimental-Result 297 (266, 298)"
-unfoldable pub resultBytes : Outcome → List ℕ
-resultBytes (Base n) = numberBytes 268 n
-resultBytes (Experimental n) = experimental n
 
 -- an AVP that is absent where there is nothing to hold: no name that is stored is empty
 abbrev pub namedBytes : ℕ → List ℕ → List ℕ
@@ -30,15 +26,12 @@ namedBytes code d = ifThere (ltb 0 (length d)) (avpBytes code d)
 abbrev pub vendorNamed : ℕ → List ℕ → List ℕ
 vendorNamed code d = ifThere (ltb 0 (length d)) (vendorBytes code d)
 
--- "Then Session-Id ..; 260 (266, 258); Result-Code 268 or Experimental-Result 297; 277 of 1; 264; 296": up to 277, then what the header block h names
-unfoldable pub frontBytes : Terms → List ℕ → Outcome → List ℕ
-frontBytes terms session result = copied session ++ vendorApplication (terms .application) ++ resultBytes result ++ numberBytes 277 1
-
-unfoldable pub originBytes : List ℕ → List ℕ
-originBytes h = avpBytes 264 (hostOf h) ++ avpBytes 296 (realmOf h)
+-- "carries the server's own list once, right after 296"
+unfoldable pub listBytes : Terms → List ℕ → List ℕ
+listBytes terms req = ifThere (listCalled terms req) (ownFeatures (terms .features))
 
 unfoldable pub topBytes : Terms → List ℕ → List ℕ → Outcome → List ℕ
-topBytes terms req t result = frontBytes terms (sessionOf (bodyOf req)) result ++ originBytes (blockOf t 0)
+topBytes terms req t result = frontBytes terms (sessionOf (bodyOf req)) result ++ (originBytes (blockOf t 0) ++ listBytes terms req)
 
 -- "User-Name ..", of a SAR and a MAR, and a MAR's "Public-Identity"; "Server-Name where a decision gives one"
 unfoldable pub identityBytes : List ℕ → Given → List ℕ
@@ -54,13 +47,3 @@ dataBytes t file g = capabilities (ofBlock mandatoryOf t (g .capable)) (ofBlock 
 -- "After 296 the answer has User-Name, Public-Identity, the number sent, and the items"; no other answer has vectors
 unfoldable pub givenBytes : List ℕ → List ℕ → List ℕ → Given → List ℕ
 givenBytes t file v g = nameBytes t g ++ (sentBytes v (g .sent) ++ dataBytes t file g)
-
--- "Header: version 1, flags P as received and E exactly for 3xxx, no others, length its own, the rest as received."
-unfoldable pub flagsOf : ℕ → Outcome → ℕ
-flagsOf flags result = flags / 64 % 2 * 64 + cond (eqb (numberOf result / 1000) 3) 32 0
-
-abbrev pub startBytes : ℕ → ℕ → List ℕ
-startBytes n flags = 1 ∷ n / 65536 % 256 ∷ n / 256 % 256 ∷ n % 256 ∷ flags ∷ []
-
-unfoldable pub headerBytes : List ℕ → Outcome → ℕ → List ℕ
-headerBytes req result n = startBytes n (flagsOf (getD req 4 0) result) ++ take 15 (drop 5 req)

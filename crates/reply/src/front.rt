@@ -1,60 +1,47 @@
-// How every answer begins: Session-Id, 260, the result, 277, 264, 296.
-use diameter::codes;
+// How every answer begins: Session-Id, 260, the result, 277, 264, 296, and the own list where it is called for.
 use pen::group;
 use reading::Outcome;
 use reading::Terms;
+ghost use mathlib.Core.List.{_++_};
 ghost use mathlib.Core.Path.{_≡_};
-ghost use Prim.Native.Nat.{_+_, _≤_};
+ghost use Prim.Native.Nat.{_≤_};
 ghost use lib.ListN.{length};
 ghost use Rattle.octets.specs.Run.{Wrote};
 ghost use Rattle.blocks.specs.Blocks.{blockOf};
-ghost use Rattle.pen.specs.Bytes.{copiedSize};
-ghost use Rattle.diameter.specs.Message.{bodyOf};
-ghost use Rattle.requests.specs.Request.{sessionOf};
+ghost use Rattle.requests.specs.Features.{listCalled};
 ghost use Rattle.table.specs.SoundTable.{SoundTable};
-ghost use Rattle.reply.specs.Pieces.{resultBytes, frontBytes, originBytes, topBytes};
+ghost use Rattle.reply.specs.Pieces.{originBytes, listBytes, topBytes};
 
-// Result-Code or Experimental-Result.
-fn put_result(out: &mut [u8], o: Outcome) -> usize
-    requires { ⌜ length (resultBytes o) ≤ length (now out) ⌝ }
-    ensures { λ r. ⌜ (r ≡ length (resultBytes o)) × Wrote (resultBytes o) (now (out .entry)) (now (out .exit)) r ⌝ }
+// Supported-Features, where the request calls for it.
+fn put_list(out: &mut [u8], req: &[u8], terms: Terms, listed: bool) -> usize
+    requires { ⌜ (listed ≡ listCalled terms (now req)) × (length (listBytes terms (now req)) ≤ length (now out)) ⌝ }
+    ensures { λ r. ⌜ (r ≤ length (now (out .entry))) × Wrote (listBytes terms (now (req .entry))) (now (out .entry)) (now (out .exit)) r ⌝ }
 {
-    match o {
-        Outcome::Base(n) => group::put_base(out, n),
-        Outcome::Experimental(n) => group::put_experimental(out, n),
+    if listed {
+        return group::put_features(out, terms.features);
     }
+    0
 }
 
-// A Session-Id, the application, the result, and 277 of 1.
-fn put_start(out: &mut [u8], session: &[u8], terms: Terms, o: Outcome) -> usize
-    requires { ⌜ copiedSize (length (now session)) + 32 + length (resultBytes o) + 12 ≤ length (now out) ⌝ }
-    ensures { λ r. ⌜ (r ≤ length (now (out .entry))) × Wrote (frontBytes terms (now (session .entry)) o) (now (out .entry)) (now (out .exit)) r ⌝ }
+// Who answers, and what the server supports.
+fn put_server(
+    out: &mut [u8],
+    req: &[u8],
+    t: &[u8],
+    count: usize,
+    terms: Terms,
+    listed: bool,
+) -> usize
+    requires { ⌜ SoundTable (now t) count × (listed ≡ listCalled terms (now req))
+        × (length (originBytes (blockOf (now t) 0) ++ listBytes terms (now req)) ≤ length (now out)) ⌝ }
+    ensures { λ r. ⌜ (r ≤ length (now (out .entry)))
+        × Wrote (originBytes (blockOf (now (t .entry)) 0) ++ listBytes terms (now (req .entry))) (now (out .entry)) (now (out .exit)) r ⌝ }
 {
-    let a = pen::put_copy(out, session);
-    let b = a + group::put_application(&mut out[a..], terms.application);
-    let c = b + put_result(&mut out[b..], o);
-    c + pen::put_number(&mut out[c..], codes::AUTH_SESSION_STATE, 1)
+    let a = envelope::front::put_origin(out, t, count);
+    a + put_list(&mut out[a..], req, terms, listed)
 }
 
-// The same with the request's Session-Id.
-fn put_front(out: &mut [u8], req: &[u8], terms: Terms, o: Outcome) -> usize
-    requires { ⌜ length (frontBytes terms (sessionOf (bodyOf (now req))) o) ≤ length (now out) ⌝ }
-    ensures { λ r. ⌜ (r ≤ length (now (out .entry))) × Wrote (frontBytes terms (sessionOf (bodyOf (now (req .entry)))) o) (now (out .entry))
-        (now (out .exit)) r ⌝ }
-{
-    put_start(out, requests::session(req), terms, o)
-}
-
-// Origin-Host and Origin-Realm.
-fn put_origin(out: &mut [u8], t: &[u8], count: usize) -> usize
-    requires { ⌜ SoundTable (now t) count × (length (originBytes (blockOf (now t) 0)) ≤ length (now out)) ⌝ }
-    ensures { λ r. ⌜ (r ≤ length (now (out .entry))) × Wrote (originBytes (blockOf (now (t .entry)) 0)) (now (out .entry)) (now (out .exit)) r ⌝ }
-{
-    let a = pen::put_avp(out, codes::ORIGIN_HOST, parts::host(t, count));
-    a + pen::put_avp(&mut out[a..], codes::ORIGIN_REALM, parts::realm(t, count))
-}
-
-// What every answer has.
+// What every answer has. Whether the request calls for the own list is known by now.
 pub fn put_top(
     out: &mut [u8],
     req: &[u8],
@@ -62,10 +49,11 @@ pub fn put_top(
     count: usize,
     terms: Terms,
     o: Outcome,
+    listed: bool,
 ) -> usize
-    requires { ⌜ SoundTable (now t) count × (length (topBytes terms (now req) (now t) o) ≤ length (now out)) ⌝ }
+    requires { ⌜ SoundTable (now t) count × (listed ≡ listCalled terms (now req)) × (length (topBytes terms (now req) (now t) o) ≤ length (now out)) ⌝ }
     ensures { λ r. ⌜ (r ≤ length (now (out .entry))) × Wrote (topBytes terms (now (req .entry)) (now (t .entry)) o) (now (out .entry)) (now (out .exit)) r ⌝ }
 {
-    let a = put_front(out, req, terms, o);
-    a + put_origin(&mut out[a..], t, count)
+    let a = envelope::front::put_front(out, req, terms, o);
+    a + put_server(&mut out[a..], req, t, count, terms, listed)
 }

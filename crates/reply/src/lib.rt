@@ -1,4 +1,3 @@
-// The answer in pieces: its header, what every answer has, what a decision gives.
+// The answer in pieces: what every answer has, what a decision gives.
 pub mod front;
 pub mod given;
-pub mod header;

@@ -60,11 +60,11 @@ unfoldable pub sought : List ℕ
 sought = over (reply 302 (experimental 5003) []) removed
 
 unfoldable pub month : Lent
-month = lent file here [] [] room (underCx 3588)
+month = lent file here [] [] room (underCx 3588 0)
 
 -- what is lent to each call
 abbrev pub lending : List ℕ → List ℕ → List ℕ → Lent
-lending message table buffer = lent message table [] [] buffer (underCx 3588)
+lending message table buffer = lent message table [] [] buffer (underCx 3588 0)
 
 -- all that a call opens
 unfoldable pub all : ℕ

@@ -52,7 +52,7 @@ unfoldable pub denied : List ℕ
 denied = over (reply 303 (numberBytes 268 5012) []) sent
 
 unfoldable pub cards : Lent
-cards = lent (endToEnd marks) idle [] fresh room (underCx 3588)
+cards = lent (endToEnd marks) idle [] fresh room (underCx 3588 0)
 
 unfoldable cardsAll : ℕ
 unfolding all mar fresh used idle named sent denied
@@ -75,33 +75,33 @@ unfolding cardsAll
 used-sound = refl
 
 -- what each call comes to, and how it is counted
-pub sent-comes : serveTable (lent mar idle [] fresh room (underCx 3588)) ≡ leaves 336 named used sent
+pub sent-comes : serveTable (lent mar idle [] fresh room (underCx 3588 0)) ≡ leaves 336 named used sent
 unfolding cardsAll
-sent-comes = come (lent mar idle [] fresh room (underCx 3588)) roomy idle-sound fresh-sound refl
+sent-comes = come (lent mar idle [] fresh room (underCx 3588 0)) roomy idle-sound fresh-sound refl
 
 sent-roomy : smallBuffer sent ≡ false
-sent-roomy = stays (lent mar idle [] fresh room (underCx 3588)) 336 named used sent sent-comes idle-sound roomy
+sent-roomy = stays (lent mar idle [] fresh room (underCx 3588 0)) 336 named used sent sent-comes idle-sound roomy
 
-denied-comes : serveTable (lent mar named [] used sent (underCx 3588)) ≡ leaves 116 named used denied
+denied-comes : serveTable (lent mar named [] used sent (underCx 3588 0)) ≡ leaves 116 named used denied
 unfolding cardsAll
-denied-comes = come (lent mar named [] used sent (underCx 3588)) sent-roomy named-sound used-sound refl
+denied-comes = come (lent mar named [] used sent (underCx 3588 0)) sent-roomy named-sound used-sound refl
 
-pub sent-counts : eventOf (lent mar idle [] fresh room (underCx 3588)) ≡ counts 303 (Base 2001) 336 1
+pub sent-counts : eventOf (lent mar idle [] fresh room (underCx 3588 0)) ≡ counts 303 (Base 2001) 336 1
 unfolding cardsAll
-sent-counts = counted-from (lent mar idle [] fresh room (underCx 3588)) 336 named used sent sent-comes idle-sound
+sent-counts = counted-from (lent mar idle [] fresh room (underCx 3588 0)) 336 named used sent sent-comes idle-sound
 
-denied-counts : eventOf (lent mar named [] used sent (underCx 3588)) ≡ counts 303 (Base 5012) 116 0
+denied-counts : eventOf (lent mar named [] used sent (underCx 3588 0)) ≡ counts 303 (Base 5012) 116 0
 unfolding cardsAll
-denied-counts = counted-from (lent mar named [] used sent (underCx 3588)) 116 named used denied denied-comes named-sound
+denied-counts = counted-from (lent mar named [] used sent (underCx 3588 0)) 116 named used denied denied-comes named-sound
 
 -- the second MAR over the vectors as they came would be sent the same vector again
-again-comes : serveTable (lent mar named [] fresh sent (underCx 3588)) ≡ leaves 336 named used (over (challenges 1 (item 1 1)) sent)
+again-comes : serveTable (lent mar named [] fresh sent (underCx 3588 0)) ≡ leaves 336 named used (over (challenges 1 (item 1 1)) sent)
 unfolding cardsAll
-again-comes = come (lent mar named [] fresh sent (underCx 3588)) sent-roomy named-sound fresh-sound refl
+again-comes = come (lent mar named [] fresh sent (underCx 3588 0)) sent-roomy named-sound fresh-sound refl
 
-pub again-counts : eventOf (lent mar named [] fresh sent (underCx 3588)) ≡ counts 303 (Base 2001) 336 0
+pub again-counts : eventOf (lent mar named [] fresh sent (underCx 3588 0)) ≡ counts 303 (Base 2001) 336 0
 unfolding cardsAll
-again-counts = counted-from (lent mar named [] fresh sent (underCx 3588)) 336 named used (over (challenges 1 (item 1 1)) sent) again-comes named-sound
+again-counts = counted-from (lent mar named [] fresh sent (underCx 3588 0)) 336 named used (over (challenges 1 (item 1 1)) sent) again-comes named-sound
 
 -- the report: it ends by 0
 each-mar : All OneRequest marks
@@ -123,11 +123,11 @@ cards-read = report-0-whole cards area enough marks each-mar refl
 pub cards-requests : requestsOf cards ≡ marks
 cards-requests = cards-read .0
 
-after-sent : next cards mar ≡ lent (endToEnd marks) named [] used sent (underCx 3588)
+after-sent : next cards mar ≡ lent (endToEnd marks) named [] used sent (underCx 3588 0)
 unfolding cards next
 after-sent = rw sent-comes
 
-after-denied : next (lent (endToEnd marks) named [] used sent (underCx 3588)) mar ≡ lent (endToEnd marks) named [] used denied (underCx 3588)
+after-denied : next (lent (endToEnd marks) named [] used sent (underCx 3588 0)) mar ≡ lent (endToEnd marks) named [] used denied (underCx 3588 0)
 unfolding next
 after-denied = rw denied-comes
 
@@ -141,7 +141,7 @@ cards-row = ap (row cards) cards-requests ∙ rw (after-sent, sent-counts, denie
 pub cards-events : eventsOf cards ≡ dealt
 cards-events = report-over cards (requestsOf cards) ∙ ap (λ (y : Lent). row y (requestsOf cards)) cards-only ∙ cards-row
 
-cards-left : left cards (requestsOf cards) ≡ lent (endToEnd marks) named [] used denied (underCx 3588)
+cards-left : left cards (requestsOf cards) ≡ lent (endToEnd marks) named [] used denied (underCx 3588 0)
 unfolding left
 cards-left = ap (left cards) cards-requests ∙ rw (after-sent, after-denied)
 

@@ -33,6 +33,10 @@ use Rattle.worked_examples.proofs.Sample.{block, room, request, reply, common, 
 use Rattle.report_example.proofs.Calls.{lir, removal, strayed, scrap, file, here, gone, month, each, sound-here, sound-gone, comes, counts, counted-from}
 use Rattle.report_example.proofs.Calls.{all, located-counts}
 use Rattle.report_example.proofs.Month.{area, enough, month-requests, month-stop, month-number, month-events, month-table, counting}
+use Rattle.diameter.specs.Message.{bodyOf}
+use Rattle.diameter.specs.Put.{All}
+use Rattle.demands.specs.Peers.{byPeer, vendorIds, OneVendor}
+use Rattle.demands.proofs.Editions.{oneVendor, one-says}
 use Rattle.report_numbers.proofs.Numbers as numbers
 
 -- the month's length
@@ -128,7 +132,7 @@ experimental-column = refl
 
 -- the LIR's result has a column; the removal's is in the same, and so is the same
 alone : Lent
-alone = lent lir here [] [] room (underCx 3588)
+alone = lent lir here [] [] room (underCx 3588 0)
 
 alone-only : tableOnly alone ≡ alone
 unfolding alone
@@ -138,7 +142,7 @@ met-column : Listed (resultOf (tableOnly alone))
 met-column = numbers.report-column alone
 
 taking : Lent
-taking = lent removal here [] [] room (underCx 3588)
+taking = lent removal here [] [] room (underCx 3588 0)
 
 taking-only : tableOnly taking ≡ taking
 unfolding taking
@@ -162,7 +166,7 @@ uar : List ℕ
 uar = request 300 (common ++ (avpBytes 1 (0x70 ∷ []) ++ (vendorBytes 601 (0x61 ∷ []) ++ (vendorBytes 600 (0x76 ∷ []) ++ vendorNumber 623 1))))
 
 abbrev authorizing : Lent
-authorizing = lent uar here [] [] room (underCx 3588)
+authorizing = lent uar here [] [] room (underCx 3588 0)
 
 uar-one : OneRequest uar
 unfolding all uar
@@ -200,7 +204,7 @@ firstTwo : List ℕ
 firstTwo = endToEnd (lir ∷ removal ∷ [])
 
 begun : Lent
-begun = lent firstTwo here [] [] room (underCx 3588)
+begun = lent firstTwo here [] [] room (underCx 3588 0)
 
 met-0 : reported begun area .number ≡ 0
 unfolding begun firstTwo
@@ -287,21 +291,21 @@ met-kept = numbers.report-kept month area 1 area-sound 1 16 (lit< tt) refl
 
 -- over a block of zeros, a vector file of one byte, and with no buffer
 unsound : Lent
-unsound = lent file block [] [] room (underCx 3588)
+unsound = lent file block [] [] room (underCx 3588 0)
 
 met-unsound : reported unsound area .table ≡ block
 unfolding all unsound checkArea tableIn sizeIn
 met-unsound = numbers.report-unsound unsound area 0 refl .0
 
 spoilt : Lent
-spoilt = lent file here [] (3 ∷ []) room (underCx 3588)
+spoilt = lent file here [] (3 ∷ []) room (underCx 3588 0)
 
 met-spoilt : reported spoilt area .vectors ≡ 3 ∷ []
 unfolding all spoilt
 met-spoilt = numbers.report-unsound-vectors spoilt area 0 refl .1
 
 cramped : Lent
-cramped = lent file here [] [] [] (underCx 3588)
+cramped = lent file here [] [] [] (underCx 3588 0)
 
 met-small : reported cramped area .buffer ≡ []
 unfolding cramped
@@ -309,15 +313,24 @@ met-small = numbers.report-small cramped area (lit< tt) .2
 
 -- a peer of another edition: every request that is read is counted under 12
 unheard : Lent
-unheard = lent file here [] [] room (underCx 6734)
+unheard = lent file here [] [] room (underCx 6734 0)
 
 met-peer : reported unheard area .table ≡ here
 unfolding unheard
 met-peer = numbers.report-peer unheard area refl .0
 
-met-peer-counts : wordIn (reported unheard area .area) 16 ≡ length (requestsOf unheard)
+met-peer-counts : wordIn (reported unheard area .area) 16 ≡ 4
 unfolding unheard month
-met-peer-counts = numbers.report-peer-counts unheard area refl enough short
+met-peer-counts = numbers.report-peer-counts unheard area refl enough short ∙ ap length month-requests
+
+-- the month's requests have one Vendor-Id each: its numbers are the same under RFC 6733
+just-one : All (λ (p : List ℕ). OneVendor (bodyOf p)) (lir ∷ removal ∷ lir ∷ strayed ∷ [])
+unfolding all oneVendor vendorIds
+just-one = (one-says (bodyOf lir) refl, (one-says (bodyOf removal) refl, (one-says (bodyOf lir) refl, (one-says (bodyOf strayed) refl, tt))))
+
+met-one-vendor : reported (byPeer month 6733) area ≡ reported month area
+unfolding month
+met-one-vendor = numbers.report-one-vendor month area (rw month-requests just-one)
 
 -- a question alone
 met-idle : (reported alone area .table ≡ here) × (alteredOver alone (requestsOf alone) ≡ 0)
@@ -384,6 +397,6 @@ unfolding working month
 met-kept-past = numbers.report-kept working area 1 working-sound 2 16 (lit< tt) refl
 
 -- with a spoilt vector file the whole area stays
-met-working-spoilt : reported (lent file (here ++ behind) [] (3 ∷ []) room (underCx 3588)) area .table ≡ here ++ behind
+met-working-spoilt : reported (lent file (here ++ behind) [] (3 ∷ []) room (underCx 3588 0)) area .table ≡ here ++ behind
 unfolding all
-met-working-spoilt = numbers.report-unsound-vectors (lent file (here ++ behind) [] (3 ∷ []) room (underCx 3588)) area 0 refl .0
+met-working-spoilt = numbers.report-unsound-vectors (lent file (here ++ behind) [] (3 ∷ []) room (underCx 3588 0)) area 0 refl .0

@@ -58,19 +58,19 @@ unfolding all endToEnd
 month-stop = month-read .1
 
 -- the calls in turn
-after-located : next month lir ≡ lent file here [] [] located (underCx 3588)
+after-located : next month lir ≡ lent file here [] [] located (underCx 3588 0)
 unfolding month next
 after-located = rw located-comes
 
-after-removed : next (lent file here [] [] located (underCx 3588)) removal ≡ lent file gone [] [] removed (underCx 3588)
+after-removed : next (lent file here [] [] located (underCx 3588 0)) removal ≡ lent file gone [] [] removed (underCx 3588 0)
 unfolding next
 after-removed = rw removed-comes
 
-after-sought : next (lent file gone [] [] removed (underCx 3588)) lir ≡ lent file gone [] [] sought (underCx 3588)
+after-sought : next (lent file gone [] [] removed (underCx 3588 0)) lir ≡ lent file gone [] [] sought (underCx 3588 0)
 unfolding next
 after-sought = rw sought-comes
 
-after-strayed : next (lent file gone [] [] sought (underCx 3588)) strayed ≡ lent file gone [] [] sought (underCx 3588)
+after-strayed : next (lent file gone [] [] sought (underCx 3588 0)) strayed ≡ lent file gone [] [] sought (underCx 3588 0)
 unfolding next
 after-strayed = rw strayed-comes
 
@@ -85,7 +85,7 @@ month-row =
 pub month-events : eventsOf month ≡ events
 month-events = report-over month (requestsOf month) ∙ ap (λ (y : Lent). row y (requestsOf month)) month-only ∙ month-row
 
-month-left : left month (requestsOf month) ≡ lent file gone [] [] sought (underCx 3588)
+month-left : left month (requestsOf month) ≡ lent file gone [] [] sought (underCx 3588 0)
 unfolding left
 month-left = ap (left month) month-requests ∙ rw (after-located, after-removed, after-sought, after-strayed)
 

@@ -141,11 +141,13 @@ sparing = counting-by (λ (x : Lent). unspent x (requestsOf x))
 unspent-cards : unspent cards (requestsOf cards) ≡ counts 303 (Base 2001) 336 1 ∷ counts 303 (Base 2001) 336 0 ∷ []
 unfolding unspent cards
 unspent-cards =
-    let x = lent mar idle [] fresh room (underCx 3588) in
+    let x = lent mar idle [] fresh room (underCx 3588 0) in
     ap (unspent cards) cards-requests
-    ∙ ap (λ (y : Lent). eventOf y ∷ eventOf (tableOnly (lent mar (serve x .table) [] fresh (serve x .buffer) (underCx 3588))) ∷ []) (only-sound x 1 idle-sound)
-    ∙ ap (λ (s : Served). eventOf x ∷ eventOf (tableOnly (lent mar (s .table) [] fresh (s .buffer) (underCx 3588))) ∷ []) (serve-sound x 1 idle-sound ∙ sent-comes)
-    ∙ ap (λ (y : Lent). eventOf x ∷ eventOf y ∷ []) (only-sound (lent mar named [] fresh sent (underCx 3588)) 1 named-sound)
+    ∙ ap (λ (y : Lent). eventOf y ∷ eventOf (tableOnly (lent mar (serve x .table) [] fresh (serve x .buffer) (underCx 3588 0))) ∷ [])
+    (only-sound x 1 idle-sound)
+    ∙ ap (λ (s : Served). eventOf x ∷ eventOf (tableOnly (lent mar (s .table) [] fresh (s .buffer) (underCx 3588 0))) ∷ [])
+    (serve-sound x 1 idle-sound ∙ sent-comes)
+    ∙ ap (λ (y : Lent). eventOf x ∷ eventOf y ∷ []) (only-sound (lent mar named [] fresh sent (underCx 3588 0)) 1 named-sound)
     ∙ rw (sent-counts, again-counts)
 
 true-95 : wordAt (eventsOf cards) 95 ≡ 1

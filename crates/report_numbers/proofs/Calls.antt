@@ -9,7 +9,7 @@ use Rattle.counting.proofs.Numbers.{largest-append}
 use Rattle.rewrite.proofs.Counts.{altered-none, altered-most}
 use Rattle.calling.specs.Call.{Call, Answered, Refused}
 use Rattle.calling.specs.Lent.{Lent, asking, dialectIn}
-use Rattle.calling.specs.Serve.{Served, checkOf, checkValue, refused, answered, serveTable}
+use Rattle.calling.specs.Serve.{Served, checkOf, checkValue, refused, answeredBy, serveTable}
 use Rattle.calling.proofs.Calls.{size-least, size-most, length-even}
 use Rattle.calling.proofs.Kept.{serve-by}
 use Rattle.demands.proofs.Firm.{check-most}
@@ -68,7 +68,7 @@ pub same-altered : (x : Lent) → serveTable x .table ≡ x .table → recordsAl
 same-altered x e = ap (λ (t : List ℕ). alteredUpTo (x .table) t (checkValue (checkOf x))) e ∙ altered-none (x .table) (checkValue (checkOf x))
 
 event-altered : (x : Lent) → counted.alteredBy (eventOf x) ≡ recordsAltered x
-unfolding eventOf refused answered
+unfolding eventOf refused answeredBy
 event-altered x =
     serve-by x (λ (s : Served). serveTable x ≡ s → counted.alteredBy (eventBy x (s .call)) ≡ recordsAltered x)
     (λ r a b e. sym (same-altered x (ap (λ (s : Served). s .table) e)))
@@ -103,7 +103,7 @@ event-length x = go (serveTable x .call)
     go (Refused number besides) = refl
 
 call-most : (x : Lent) → callLength (serveTable x .call) ≤ 36864
-unfolding refused answered
+unfolding refused answeredBy
 call-most x =
     let req = x .request in
     serve-by x (λ (s : Served). callLength (s .call) ≤ 36864) (λ r a b. omega arith)

@@ -12,12 +12,12 @@ use Rattle.counting.specs.Counted.{howMany}
 use Rattle.counting.specs.declared.Event.{Event}
 use Rattle.calling.specs.Lent.{Lent, asking}
 use Rattle.calling.specs.Trial.{anyHolds}
-use Rattle.calling.specs.Serve.{unknownPeer, smallBuffer, checkOf, checkValue, answered, resultOf, serveTable}
+use Rattle.calling.specs.Serve.{unknownPeer, smallBuffer, checkOf, checkValue, answeredBy, resultOf, serveTable}
 use Rattle.calling.proofs.Kept.{table-checked, vectors-checked, taken}
 use Rattle.demands.specs.Call.{turnedAway}
 use Rattle.demands.specs.Frame.{succeeds}
 use Rattle.demands.proofs.Refusals.{refused-kept, answered-is}
-use Rattle.demands.proofs.Peers.{peer-call}
+use Rattle.demands.proofs.PeerCalls.{peer-call}
 use Rattle.demands.proofs.Frame.{failure-kept, question-kept, bytes-kept}
 use Rattle.reporting.specs.Row.{eventOf, next, row, left}
 use Rattle.reporting.specs.Report.{requestsOf, ran, reportedTable}
@@ -84,7 +84,7 @@ abbrev Left : Lent → Type 0
 Left x = (serveTable x .table ≡ x .table) × (serveTable x .vectors ≡ x .vectors)
 
 idle-kept : (x : Lent) → idle (eventOf x) ≡ true → Left x
-unfolding eventOf answered
+unfolding eventOf answeredBy
 idle-kept x q = go (turnedAway x) refl
   where
     count : ℕ

@@ -18,6 +18,9 @@ use Rattle.counting.specs.Counting.{Listed}
 use Rattle.counting.specs.Counted.{howMany, numberAt, wordAt}
 use Rattle.counting.specs.Layout.{readWord, stopWord, alteredWord, largestWord, answeredWord, refusalWord, cellWord}
 use Rattle.counting.specs.Words.{longBytes}
+use Rattle.diameter.specs.Message.{bodyOf}
+use Rattle.reading.specs.Groups.{rfc3588, rfc6733}
+use Rattle.demands.specs.Peers.{byPeer, OneVendor}
 use Rattle.calling.specs.Lent.{Lent, asking, holding, tableOnly}
 use Rattle.calling.specs.Serve.{unknownPeer, serve, resultOf}
 use Rattle.calling.proofs.Areas.{check-in}
@@ -39,6 +42,7 @@ use Rattle.report_numbers.proofs.Firm as firm
 use Rattle.report_numbers.proofs.Joined as join
 use Rattle.report_numbers.proofs.Kept as kept
 use Rattle.report_numbers.proofs.Over as over
+use Rattle.report_numbers.proofs.Peers.{reports-same}
 
 -- THE REPORT. Any two outcomes that meet the promise are one: the word, the table, the vectors, the buffer and the area.
 pub report-unique : (x : Lent) (a : List ℕ) (r s : ℕ) (t u v w o q b c : List ℕ) → ReportPromise x a r t v o b → ReportPromise x a s u w q c
@@ -281,6 +285,10 @@ module _ (x : Lent) (a : List ℕ) where
   report-peer-counts e room short =
       report-refused x a room short 12 (omega arith) (omega arith) ∙ ap (howMany (refusedBy 12)) (report-over x (requestsOf x))
       ∙ kept.peer-counts (tableOnly x) e (requestsOf x)
+
+  -- "A message with just one is treated alike under both": so is a month of such messages. Its number, numbers, area, vectors and buffer are the same.
+  pub report-one-vendor : All (λ (p : List ℕ). OneVendor (bodyOf p)) (requestsOf x) → reported (byPeer x rfc6733) a ≡ reported (byPeer x rfc3588) a
+  report-one-vendor = reports-same x a
 
   -- Where every request is refused, or answered by an error, or neither a SAR nor a MAR, no byte of the area and no vector is altered.
   pub report-idle : allIdle (eventsOf x) ≡ true

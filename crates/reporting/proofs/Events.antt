@@ -7,7 +7,7 @@ use Rattle.counting.specs.Counting.{Fits, counted}
 use Rattle.counting.specs.declared.Event.{Event}
 use Rattle.deciding.proofs.Comes.{decide-carries}
 use Rattle.calling.specs.Lent.{Lent, lent, dialectIn}
-use Rattle.calling.specs.Serve.{Served, checkOf, checkValue, refused, answered, serveTable}
+use Rattle.calling.specs.Serve.{Served, checkOf, checkValue, refused, answeredBy, serveTable}
 use Rattle.calling.specs.Leaves.{Leaves}
 use Rattle.calling.specs.declared.Came.{Came}
 use Rattle.calling.proofs.Kept.{serve-by}
@@ -18,7 +18,7 @@ use Rattle.calling.specs.declared.Came.the-variants as came
 
 -- refusals have numbers up to 12, and every result has a column
 pub event-fits : (x : Lent) → Fits (eventOf x)
-unfolding eventOf refused answered
+unfolding eventOf refused answeredBy
 event-fits x =
     serve-by x (λ (s : Served). Fits (eventBy x (s .call))) (λ r a b. (a, omega arith))
     (λ k. decide-carries (dialectIn x) (x .request) (x .table) (checkValue (checkOf x)) (x .vectors) .result)

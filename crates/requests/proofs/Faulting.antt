@@ -13,7 +13,7 @@ use Rattle.reading.specs.declared.Ruled.{Ruled}
 use Rattle.reading.specs.declared.Ruled.the-variants.{Taken, Skipped, Fault}
 use Rattle.reading.specs.declared.Verdict.{Verdict}
 use Rattle.requests.specs.Judged.{Judged, bad, fine, nothing, onRule, judge}
-use Rattle.requests.specs.Request.{firstOther, missing, complete, headerFault, readWalk, readIn}
+use Rattle.requests.specs.Request.{firstOther, missing, complete, headerFault, readWalk, readIn, readBy, readSh, headerFaultSh}
 
 fine-bad : {A : Type 0} (seen : Seen) (v : Verdict) → fine seen ≡ bad v → A
 fine-bad seen v e = let z : _≡_ {A = ℕ} 0 1 = cc in absurd (omega arith)
@@ -80,9 +80,9 @@ complete-placed d req v (fine seen) h e = go (eqb (missing d seen) 0) e
     go true f = fine-bad seen v f
     go false f = unplaced req v (lackOf (missing d seen)) refl f
 
-pub read-placed : (d : Dialect) (req : List ℕ) (v : Verdict) → 20 ≤ length req → readIn d req ≡ bad v → Placed req v
-unfolding readIn readWalk walk
-read-placed d req v h e = go (eqb (headerFault d req) 0) e
+by-placed : (fault : ℕ) (d : Dialect) (req : List ℕ) (v : Verdict) → 20 ≤ length req → readBy fault d req ≡ bad v → Placed req v
+unfolding readWalk walk
+by-placed fault d req v h e = go (eqb fault 0) e
   where
     walked : (w : Verdict) → judge d 20 (walkFrom 0 (drop 20 req)) nothing ≡ bad w → Placed req w
     walked w f =
@@ -95,6 +95,15 @@ read-placed d req v h e = go (eqb (headerFault d req) 0) e
     first false f = complete-placed d req v _ walked f
 
     go : (x : Bool) → cond x (cond (firstOther (bodyOf req)) (bad (lackOf sessionId)) (complete d (judge d 20 (bodyOf req) nothing)))
-        (bad (faultOf (headerFault d req))) ≡ bad v → Placed req v
+        (bad (faultOf fault)) ≡ bad v → Placed req v
     go true f = first (firstOther (bodyOf req)) f
-    go false f = unplaced req v (faultOf (headerFault d req)) refl f
+    go false f = unplaced req v (faultOf fault) refl f
+
+module _ (d : Dialect) (req : List ℕ) (v : Verdict) (h : 20 ≤ length req) where
+  pub read-placed : readIn d req ≡ bad v → Placed req v
+  unfolding readIn
+  read-placed e = by-placed (headerFault d req) d req v h e
+
+  pub sh-placed : readSh d req ≡ bad v → Placed req v
+  unfolding readSh
+  sh-placed e = by-placed (headerFaultSh d req) d req v h e

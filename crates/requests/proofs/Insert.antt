@@ -8,7 +8,7 @@ use Rattle.reading.specs.declared.Kind.{Kind}
 use Rattle.reading.specs.declared.Ruled.{Ruled}
 use Rattle.reading.specs.declared.Ruled.the-variants.{Taken, Skipped, Fault}
 use Rattle.reading.specs.declared.Use.the-variants.{Unknown}
-use Rattle.reading.specs.Kinds.{known, kindOf, rowOf, useIn, useOf, isUnknown, publicIdentity, proxyInfo}
+use Rattle.reading.specs.Kinds.{known, kindOf, rowOf, useIn, useOf, isUnknown, publicIdentity, proxyInfo, supportedFeatures}
 use Rattle.reading.specs.Rules.{ruleBy, rule, Seen}
 use Rattle.reading.specs.Verdicts.{faultAt}
 use Rattle.requests.specs.Judged.{Judged, bad, fine, onRule, judge}
@@ -22,25 +22,33 @@ stranger-kind dialect u k e f = go (eqb (kindOf u) k) refl
     go true d = absurd (true≢false (sym (ap isUnknown e) ∙ rw (eqb-true (kindOf u) k d) f))
     go false d = d
 
--- Public-Identity and Proxy-Info are known to each command
+-- Proxy-Info and Supported-Features are known to each command, Public-Identity to those of Cx
 known-in : (dialect : Dialect) (k : Kind) → isUnknown (k .uar) ≡ false → isUnknown (k .sar) ≡ false → isUnknown (k .lir) ≡ false → isUnknown (k .mar) ≡ false
+    → (dialect .command ≡ 306 → isUnknown (k .udr) ≡ false)
     → isUnknown (useIn dialect k) ≡ false
 unfolding useIn
-known-in dialect k a b c d = go (eqb (dialect .command) 300) (eqb (dialect .command) 301) (eqb (dialect .command) 302)
+known-in dialect k a b c d e =
+    go (eqb (dialect .command) 300) (eqb (dialect .command) 301) (eqb (dialect .command) 302) (eqb (dialect .command) 306) refl
   where
-    go : (x y z : Bool) → isUnknown (cond x (k .uar) (cond y (k .sar) (cond z (k .lir) (k .mar)))) ≡ false
-    go true y z = a
-    go false true z = b
-    go false false true = c
-    go false false false = d
+    go : (x y z u : Bool) → eqb (dialect .command) 306 ≡ u
+        → isUnknown (cond x (k .uar) (cond y (k .sar) (cond z (k .lir) (cond u (k .udr) (k .mar))))) ≡ false
+    go true y z u f = a
+    go false true z u f = b
+    go false false true u f = c
+    go false false false true f = e (eqb-true _ _ f)
+    go false false false false f = d
 
-pub identity-known : (dialect : Dialect) → isUnknown (useIn dialect (rowOf publicIdentity)) ≡ false
+pub identity-known : (dialect : Dialect) → (dialect .command ≡ 306 → ⊥) → isUnknown (useIn dialect (rowOf publicIdentity)) ≡ false
 unfolding rowOf known
-identity-known dialect = known-in dialect (rowOf publicIdentity) refl refl refl refl
+identity-known dialect other = known-in dialect (rowOf publicIdentity) refl refl refl refl (λ e. absurd (other e))
 
 pub proxy-known : (dialect : Dialect) → isUnknown (useIn dialect (rowOf proxyInfo)) ≡ false
 unfolding rowOf known
-proxy-known dialect = known-in dialect (rowOf proxyInfo) refl refl refl refl
+proxy-known dialect = known-in dialect (rowOf proxyInfo) refl refl refl refl (λ e. refl)
+
+pub features-known : (dialect : Dialect) → isUnknown (useIn dialect (rowOf supportedFeatures)) ≡ false
+unfolding rowOf known
+features-known dialect = known-in dialect (rowOf supportedFeatures) refl refl refl refl (λ e. refl)
 
 -- an AVP of a kind that the dialect does not know, without a reserved flag
 module _ (dialect : Dialect) (at : ℕ) (u : List ℕ) (w : Walk) (seen : Seen) (plain : reserved (avpFlags u) ≡ 0) (stranger : useOf dialect u ≡ Unknown) where

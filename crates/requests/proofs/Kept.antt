@@ -1,8 +1,9 @@
 -- What a request that was read holds: what the dialect needs came, and each AVP that was taken keeps rule (h).
-use Rattle.octets.specs.Standard.{ℕ, zero, suc, _+_, _≤_, _<_, add-zero, add-suc, suc-add, _≡_, refl, sym, ap, _∙_, List, [], _∷_, Option, none, some}
+use Rattle.octets.specs.Standard.{ℕ, zero, suc, _+_, _/_, _%_, _≤_, _<_, add-zero, add-suc, suc-add, _≡_, refl, sym, ap, _∙_, List, [], _∷_, Option, none, some}
 use Rattle.octets.specs.Standard.{Option·none-ne-some, Bool, true, false, not, cond, _&&_, true≢false, _⊎_, inl, inr, arith, length, getD, set}
 use Rattle.octets.specs.Standard.{replicate, eqb, leb, eqb-true, leb-true, ne-eqb}
 use Rattle.octets.proofs.All.{and-left, and-right}
+use Rattle.octets.proofs.Chains.{chain-says}
 use Rattle.diameter.specs.Avp.{padded, avpFlags, dataOf, reserved, marked}
 use Rattle.diameter.specs.Walk.{Walk, ended, faulty, avp}
 use Rattle.diameter.specs.AvpAt.{present}
@@ -12,15 +13,16 @@ use Rattle.reading.specs.declared.Kind.{Kind}
 use Rattle.reading.specs.declared.Ruled.{Ruled}
 use Rattle.reading.specs.declared.Ruled.the-variants.{Taken, Skipped, Fault}
 use Rattle.reading.specs.declared.Use.{Use}
-use Rattle.reading.specs.declared.Use.the-variants.{Unknown, Unnamed, Needed, Optional, Repeated}
+use Rattle.reading.specs.declared.Use.the-variants.{Unknown, Unnamed, Needed, Optional, Repeated, Several}
 use Rattle.reading.specs.declared.Verdict.{Verdict}
 use Rattle.reading.specs.Kinds.{kinds, known, unknown, kindOf, rowOf, useIn, useOf, isNeeded, sessionId, serverName}
 use Rattle.reading.specs.Contents.{faultUnless, plainFault}
 use Rattle.reading.specs.Rules.{contentFault, ofContent, ofUse, ruleBy, rule, Seen}
 use Rattle.requests.specs.Judged.{nothing, Judged, bad, fine, onRule, judge}
-use Rattle.diameter.specs.Message.{bodyOf}
+use Rattle.diameter.specs.Message.{versionOf, messageFlags, bodyOf}
 use Rattle.reading.specs.Verdicts.{lackOf, faultOf}
-use Rattle.requests.specs.Request.{headerFault, firstOther, missingFrom, missing, complete, readWalk, readIn, given, dataIf, dataSeen}
+use Rattle.requests.specs.Request.{cx, sh, spoken, spokenSh, headerFaultBy, headerFault, headerFaultSh, firstOther, missingFrom, missing, complete}
+use Rattle.requests.specs.Request.{readWalk, readBy, readIn, readSh, given, dataIf, dataSeen}
 
 -- every AVP that was taken holds what its kind must
 abbrev pub AllKept : Dialect → Seen → Type 0
@@ -52,6 +54,7 @@ use-taken Unnamed earlier flags fault = skipped
 use-taken Needed earlier flags fault = taken-if fault earlier _ _ (faulted 5009) (content-taken fault)
 use-taken Optional earlier flags fault = taken-if fault earlier _ _ (faulted 5009) (content-taken fault)
 use-taken Repeated earlier flags fault = content-taken fault
+use-taken Several earlier flags fault = content-taken fault
 
 rule-taken : (dialect : Dialect) (seen : Seen) (a : List ℕ) → TakenIf (contentFault dialect (rowOf (kindOf a) .content) a) (rule dialect seen a)
 unfolding rule ruleBy
@@ -112,18 +115,30 @@ walk-fine dialect w seen e = go (firstOther w) e
     go true d = bad-fine _ _ d
     go false d = complete-fine dialect (judge dialect 20 w nothing) seen d
 
-request-fine : (dialect : Dialect) (req : List ℕ) (seen : Seen) → readIn dialect req ≡ fine seen
+by-fine : (fault : ℕ) (dialect : Dialect) (req : List ℕ) (seen : Seen) → readBy fault dialect req ≡ fine seen
     → (judge dialect 20 (bodyOf req) nothing ≡ fine seen) × (missing dialect seen ≡ 0)
-unfolding readIn
-request-fine dialect req seen e = go (eqb (headerFault dialect req) 0) e
+by-fine fault dialect req seen e = go (eqb fault 0) e
   where
-    go : (x : Bool) → cond x (readWalk dialect (bodyOf req)) (bad (faultOf (headerFault dialect req))) ≡ fine seen
+    go : (x : Bool) → cond x (readWalk dialect (bodyOf req)) (bad (faultOf fault)) ≡ fine seen
         → (judge dialect 20 (bodyOf req) nothing ≡ fine seen) × (missing dialect seen ≡ 0)
     go true d = walk-fine dialect (bodyOf req) seen d
     go false d = bad-fine _ _ d
 
+request-fine : (dialect : Dialect) (req : List ℕ) (seen : Seen) → readIn dialect req ≡ fine seen
+    → (judge dialect 20 (bodyOf req) nothing ≡ fine seen) × (missing dialect seen ≡ 0)
+unfolding readIn
+request-fine dialect req seen e = by-fine (headerFault dialect req) dialect req seen e
+
+sh-fine : (dialect : Dialect) (req : List ℕ) (seen : Seen) → readSh dialect req ≡ fine seen
+    → (judge dialect 20 (bodyOf req) nothing ≡ fine seen) × (missing dialect seen ≡ 0)
+unfolding readSh
+sh-fine dialect req seen e = by-fine (headerFaultSh dialect req) dialect req seen e
+
 pub read-kept : (dialect : Dialect) (req : List ℕ) (seen : Seen) → readIn dialect req ≡ fine seen → AllKept dialect seen
 read-kept dialect req seen e = judge-kept dialect 20 (bodyOf req) nothing seen (nothing-kept dialect) (request-fine dialect req seen e .0)
+
+pub sh-kept : (dialect : Dialect) (req : List ℕ) (seen : Seen) → readSh dialect req ≡ fine seen → AllKept dialect seen
+sh-kept dialect req seen e = judge-kept dialect 20 (bodyOf req) nothing seen (nothing-kept dialect) (sh-fine dialect req seen e .0)
 
 -- what is needed came
 missing-zero : (dialect : Dialect) (seen : Seen) (ks : List Kind) (n : ℕ) → 0 < n → missingFrom dialect seen ks n ≡ 0 → (i : ℕ) → i < length ks
@@ -146,20 +161,56 @@ missing-zero dialect seen (k ∷ ks) n p e i h t =
     go true true ex ey d next (suc j) l u = later j (next d j (omega arith) u)
     go false y ex ey d next (suc j) l u = later j (next d j (omega arith) u)
 
-pub read-needed : (dialect : Dialect) (req : List ℕ) (seen : Seen) (k : ℕ) → readIn dialect req ≡ fine seen → k < kinds
-    → isNeeded (useIn dialect (rowOf k)) ≡ true → given seen k ≡ true
+none-missing : (dialect : Dialect) (seen : Seen) (k : ℕ) → missing dialect seen ≡ 0 → k < kinds → isNeeded (useIn dialect (rowOf k)) ≡ true
+    → given seen k ≡ true
 unfolding missing rowOf known useIn
-read-needed dialect req seen zero e h t = go (eqb (dialect .command) 300) (eqb (dialect .command) 301) (eqb (dialect .command) 302) t
+none-missing dialect seen zero e h t =
+    go (eqb (dialect .command) 300) (eqb (dialect .command) 301) (eqb (dialect .command) 302) (eqb (dialect .command) 306) t
   where
-    go : (x y z : Bool) → isNeeded (cond x Unknown (cond y Unknown (cond z Unknown Unknown))) ≡ true → given seen zero ≡ true
-    go true y z d = absurd (true≢false (sym d))
-    go false true z d = absurd (true≢false (sym d))
-    go false false true d = absurd (true≢false (sym d))
-    go false false false d = absurd (true≢false (sym d))
-read-needed dialect req seen (suc i) e h t =
-    let d = missing-zero dialect seen known 1 (omega arith) (request-fine dialect req seen e .1) i (omega arith) t in
+    go : (x y z u : Bool) → isNeeded (cond x Unknown (cond y Unknown (cond z Unknown (cond u Unknown Unknown)))) ≡ true → given seen zero ≡ true
+    go true y z u d = absurd (true≢false (sym d))
+    go false true z u d = absurd (true≢false (sym d))
+    go false false true u d = absurd (true≢false (sym d))
+    go false false false true d = absurd (true≢false (sym d))
+    go false false false false d = absurd (true≢false (sym d))
+none-missing dialect seen (suc i) e h t =
+    let d = missing-zero dialect seen known 1 (omega arith) e i (omega arith) t in
     let n : 1 + i ≡ suc i = omega arith in
     rw n at d
+
+module _ (dialect : Dialect) (req : List ℕ) (seen : Seen) (k : ℕ) where
+  pub read-needed : readIn dialect req ≡ fine seen → k < kinds → isNeeded (useIn dialect (rowOf k)) ≡ true → given seen k ≡ true
+  read-needed e h t = none-missing dialect seen k (request-fine dialect req seen e .1) h t
+
+  pub sh-needed : readSh dialect req ≡ fine seen → k < kinds → isNeeded (useIn dialect (rowOf k)) ≡ true → given seen k ≡ true
+  sh-needed e h t = none-missing dialect seen k (sh-fine dialect req seen e .1) h t
+
+-- of a request that was read the header has no fault, and the application has its command
+fine-first : (x : Bool) (w : Judged) (v : Verdict) {seen : Seen} → cond x w (bad v) ≡ fine seen → x ≡ true
+fine-first true w v e = refl
+fine-first false w v {seen} e = bad-fine v seen e
+
+unspoken : (version error : Bool) → _≡_ {A = ℕ} (cond version 5011 (cond error 3008 3001)) 0 → ⊥
+unspoken true error e = omega arith
+unspoken false true e = omega arith
+unspoken false false e = omega arith
+
+header-speaks : (has : Bool) (d : Dialect) (req : List ℕ) → headerFaultBy has d req ≡ 0 → has ≡ true
+header-speaks true d req e = refl
+header-speaks false d req e = absurd (unspoken (not (eqb (versionOf req) 1)) (eqb (messageFlags req / 32 % 2) 1) e)
+
+pub read-command : (d : Dialect) (req : List ℕ) (seen : Seen) → readIn d req ≡ fine seen → (300 ≤ d .command) × (d .command ≤ 303)
+unfolding readIn headerFault
+read-command d req seen e =
+    let f : spoken d ≡ true = header-speaks (spoken d) d req (eqb-true _ _ (fine-first (eqb (headerFault d req) 0) _ _ e)) in
+    let s = chain-says (eqb (d .terms .application) cx) (leb 300 (d .command) ∷ leb (d .command) 303 ∷ []) f in
+    (leb-true _ _ (s 1), leb-true _ _ (s 2))
+
+pub sh-command : (d : Dialect) (req : List ℕ) (seen : Seen) → readSh d req ≡ fine seen → d .command ≡ 306
+unfolding readSh headerFaultSh
+sh-command d req seen e =
+    let f : spokenSh d ≡ true = header-speaks (spokenSh d) d req (eqb-true _ _ (fine-first (eqb (headerFaultSh d req) 0) _ _ e)) in
+    eqb-true _ _ (and-right (eqb (d .terms .application) sh) _ f)
 
 -- the limits of lengths; of a kind that did not come the length is 0
 pub no-fault : (good : Bool) (n : ℕ) → faultUnless good (suc n) ≡ 0 → good ≡ true
@@ -197,7 +248,7 @@ module _ (dialect : Dialect) (req : List ℕ) (seen : Seen) (e : readIn dialect 
       → isNeeded (useIn dialect (rowOf serverName)) ≡ true
   unfolding rowOf known useIn
   server-needed (inl c) = rw c
-  server-needed (inr (a, b, c)) = rw (ne-eqb (dialect .command) 300 a, ne-eqb (dialect .command) 301 b, ne-eqb (dialect .command) 302 c)
+  server-needed (inr (a, b, c)) = let r = read-command dialect req seen e in let n : dialect .command ≡ 303 = omega arith in rw n
 
   pub server-least : (dialect .command ≡ 301) ⊎ ((dialect .command ≡ 300 → ⊥) × (dialect .command ≡ 301 → ⊥) × (dialect .command ≡ 302 → ⊥))
       → 1 ≤ length (dataSeen seen serverName)

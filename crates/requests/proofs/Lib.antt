@@ -6,3 +6,4 @@ pub mod Placed
 pub mod Requests
 pub mod Scheme
 pub mod Turns
+pub mod Wanted

@@ -17,7 +17,8 @@ use Rattle.reading.specs.Rules.{Seen}
 use Rattle.requests.specs.Judged.{nothing, Judged, bad, fine, judge}
 use Rattle.diameter.specs.Message.{applicationOf, bodyOf}
 use Rattle.reading.specs.Verdicts.{lackOf, faultOf}
-use Rattle.requests.specs.Request.{spoken, headerFault, firstOther, missingFrom, missing, complete, readWalk, readIn, sessionOf}
+use Rattle.requests.specs.Request.{spoken, spokenSh, headerFaultBy, headerFault, headerFaultSh, firstOther, missingFrom, missing, complete, readWalk}
+use Rattle.requests.specs.Request.{readBy, readIn, readSh, sessionOf}
 use Rattle.reading.specs.Places.{seenOf}
 use Rattle.requests.specs.Found.{judgedOf}
 use Rattle.reading.proofs.Judging.{seen-at}
@@ -25,29 +26,34 @@ use Rattle.diameter.specs.declared.Read.the-variants as read
 use Rattle.requests.specs.declared.Walked.the-variants as walked
 
 -- "Header, in order"
-module _ (req : List ℕ) (dialect : Dialect) where
-  pub header-version : (getD req 0 0 ≡ 1 → ⊥) → 5011 ≡ headerFault dialect req
-  unfolding headerFault
+module _ (req : List ℕ) (dialect : Dialect) (has : Bool) where
+  pub header-version : (getD req 0 0 ≡ 1 → ⊥) → 5011 ≡ headerFaultBy has dialect req
   header-version h = rw (ne-eqb _ _ h)
 
   module _ (first : getD req 0 0 ≡ 1) where
-    pub header-error : getD req 4 0 / 32 % 2 ≡ 1 → 3008 ≡ headerFault dialect req
-    unfolding headerFault
+    pub header-error : getD req 4 0 / 32 % 2 ≡ 1 → 3008 ≡ headerFaultBy has dialect req
     header-error e = rw (first, e)
 
-    module _ (asked : getD req 4 0 / 32 % 2 ≡ 1 → ⊥) (x : Bool) (ex : x ≡ spoken dialect) where
-      pub header-command : not x ≡ true → 3001 ≡ headerFault dialect req
-      unfolding headerFault
-      header-command t = rw (first, ne-eqb _ _ asked, ← ex, t)
+    module _ (asked : getD req 4 0 / 32 % 2 ≡ 1 → ⊥) where
+      pub header-command : not has ≡ true → 3001 ≡ headerFaultBy has dialect req
+      header-command t = rw (first, ne-eqb _ _ asked, t)
 
-      module _ (known : not x ≡ false) (a : ℕ) (ea : a ≡ applicationOf req) where
-        pub header-application : (a ≡ dialect .terms .application → ⊥) → 3007 ≡ headerFault dialect req
-        unfolding headerFault
-        header-application h = rw (first, ne-eqb _ _ asked, ← ex, known, ← ea, ne-eqb _ _ h)
+      module _ (known : not has ≡ false) (a : ℕ) (ea : a ≡ applicationOf req) where
+        pub header-application : (a ≡ dialect .terms .application → ⊥) → 3007 ≡ headerFaultBy has dialect req
+        header-application h = rw (first, ne-eqb _ _ asked, known, ← ea, ne-eqb _ _ h)
 
-        pub header-sound : a ≡ dialect .terms .application → 0 ≡ headerFault dialect req
-        unfolding headerFault
-        header-sound e = rw (first, ne-eqb _ _ asked, ← ex, known, ← ea, eq-eqb _ _ e)
+        pub header-sound : a ≡ dialect .terms .application → 0 ≡ headerFaultBy has dialect req
+        header-sound e = rw (first, ne-eqb _ _ asked, known, ← ea, eq-eqb _ _ e)
+
+-- the header's fault at the Cx server, and at the Sh server
+module _ (req : List ℕ) (dialect : Dialect) (has : Bool) (n : ℕ) (e : n ≡ headerFaultBy has dialect req) where
+  pub header-cx : has ≡ spoken dialect → n ≡ headerFault dialect req
+  unfolding headerFault
+  header-cx s = e ∙ rw s
+
+  pub header-sh : has ≡ spokenSh dialect → n ≡ headerFaultSh dialect req
+  unfolding headerFaultSh
+  header-sh s = e ∙ rw s
 
 -- where no whole AVP stands, the walk is at its end or at a length fault
 pub at-fault : {X : Type 0} (f : Walk → X) (x : X) (t : List ℕ) → sound t ≡ false → f ended ≡ x → f (faulty t) ≡ x → x ≡ f (walk t)
@@ -112,20 +118,28 @@ module _ (s places : List ℕ) (dialect : Dialect) (w : Walked) where
     complete-lacking r h f = rw (f, t, ← e, ne-eqb _ _ h)
 
 -- header, first AVP, walk, what is missing
-module _ (req places : List ℕ) (dialect : Dialect) (r : Walked) (n : ℕ) (en : n ≡ headerFault dialect req) where
-  pub request-header : (n ≡ 0 → ⊥) → r ≡ walked.Fault (faultOf n) → judgedOf req places r ≡ readIn dialect req
-  unfolding readIn judgedOf
-  request-header h f = rw (f, ← en, ne-eqb _ _ h)
+module _ (req places : List ℕ) (dialect : Dialect) (r : Walked) (n : ℕ) where
+  pub request-header : (n ≡ 0 → ⊥) → r ≡ walked.Fault (faultOf n) → judgedOf req places r ≡ readBy n dialect req
+  unfolding judgedOf
+  request-header h f = rw (f, ne-eqb _ _ h)
 
   module _ (z : n ≡ 0) (x : Bool) (ex : x ≡ firstOther (bodyOf req)) where
-    pub request-first : x ≡ true → r ≡ walked.Fault (lackOf sessionId) → judgedOf req places r ≡ readIn dialect req
-    unfolding readIn readWalk judgedOf
-    request-first t f = rw (f, ← en, z, ← ex, t)
+    pub request-first : x ≡ true → r ≡ walked.Fault (lackOf sessionId) → judgedOf req places r ≡ readBy n dialect req
+    unfolding readWalk judgedOf
+    request-first t f = rw (f, z, ← ex, t)
 
     pub request-walked : (w : Walked) → x ≡ false → judgedOf req places w ≡ judge dialect 20 (bodyOf req) nothing
-        → judgedOf req places r ≡ complete dialect (judgedOf req places w) → judgedOf req places r ≡ readIn dialect req
-    unfolding readIn readWalk
-    request-walked w f ew e = e ∙ rw (ew, ← en, z, ← ex, f)
+        → judgedOf req places r ≡ complete dialect (judgedOf req places w) → judgedOf req places r ≡ readBy n dialect req
+    unfolding readWalk
+    request-walked w f ew e = e ∙ rw (ew, z, ← ex, f)
+
+  pub request-cx : n ≡ headerFault dialect req → judgedOf req places r ≡ readBy n dialect req → judgedOf req places r ≡ readIn dialect req
+  unfolding readIn
+  request-cx e f = f ∙ rw e
+
+  pub request-sh : n ≡ headerFaultSh dialect req → judgedOf req places r ≡ readBy n dialect req → judgedOf req places r ≡ readSh dialect req
+  unfolding readSh
+  request-sh e f = f ∙ rw e
 
 -- What a caller may use of a request that was read: the AVPs at its places, or its fault.
 module _ (s places : List ℕ) (w : Walked) (j : Judged) (e : judgedOf s places w ≡ j) where

@@ -16,16 +16,16 @@ use Rattle.reading.specs.Places.{seenOf}
 use Rattle.reading.specs.Rules.{Seen, contentFault}
 use Rattle.reading.proofs.Alone.{Alone, gathers-alone}
 use Rattle.requests.specs.Judged.{fine}
-use Rattle.requests.specs.Request.{readIn, given, dataIf, dataSeen, schemeOf}
+use Rattle.requests.specs.Request.{readIn, given, dataIf, dataSeen, memberSeen, schemeOf}
 use Rattle.requests.proofs.Placed.{data-in}
 use Rattle.requests.proofs.Kept.{read-kept, read-needed, no-fault}
 
--- what the code reads in the data of the AVP at the item's place
-pub scheme-placed : (s places : List ℕ) (p q : Span) (b : List ℕ) → authDataItem < length places
-    → Spans s (dataAt (between s (getD places authDataItem 0) (length s)) 0) p → Spans s (dataAt (between s (p .from) (p .end)) 0) q
-    → b ≡ between s (q .from) (q .end) → b ≡ schemeOf (seenOf s places)
-scheme-placed s places p q b room i j e =
-    e ∙ j .holds ∙ rw (data-in s places authDataItem room, ← data-there s (getD places authDataItem 0) p (between s (p .from) (p .end)) i refl)
+-- what the code reads in the data of the AVP at a group's place
+pub member-placed : (s places : List ℕ) (k : ℕ) (p q : Span) (b : List ℕ) → k < length places
+    → Spans s (dataAt (between s (getD places k 0) (length s)) 0) p → Spans s (dataAt (between s (p .from) (p .end)) 0) q
+    → b ≡ between s (q .from) (q .end) → b ≡ memberSeen (seenOf s places) k
+member-placed s places k p q b room i j e =
+    e ∙ j .holds ∙ rw (data-in s places k room, ← data-there s (getD places k 0) p (between s (p .from) (p .end)) i refl)
 
 -- the first AVP of a walk stands at the front
 front-of : (t a : List ℕ) (w : Walk) → walk t ≡ avp a w → avpOf t ≡ some a

@@ -1,3 +1,4 @@
+pub mod Features
 pub mod Found
 pub mod Identity
 pub mod Judged

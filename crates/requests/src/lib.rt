@@ -1,4 +1,5 @@
 // A whole request: its header, its AVPs, and what is missing.
+pub mod features;
 pub mod identities;
 pub mod places;
 pub mod walk;
@@ -19,7 +20,8 @@ ghost use lib.ListN.{length};
 ghost use Rattle.diameter.specs.AvpAt.{partAt, present};
 ghost use Rattle.reading.specs.Kinds.{isNeeded, useIn, rowOf};
 ghost use Rattle.diameter.specs.Message.{bodyOf};
-ghost use Rattle.requests.specs.Request.{dialectOf, spoken, headerFault, firstOther, missing, complete, readIn, sessionOf};
+ghost use Rattle.requests.specs.Request.{dialectOf, spoken, spokenSh, headerFaultBy, headerFault, headerFaultSh, firstOther};
+ghost use Rattle.requests.specs.Request.{missing, complete, readBy, readIn, readSh, sessionOf};
 ghost use Rattle.reading.specs.Places.{seenOf};
 ghost use Rattle.requests.specs.Found.{judgedOf};
 
@@ -41,7 +43,7 @@ pub fn dialect(req: &[u8], terms: Terms) -> Dialect
     }
 }
 
-// Whether the application has the command.
+// Whether Cx has the command; whether Sh has it.
 fn spoken(d: Dialect) -> bool
     ensures { λ r. ⌜ r ≡ spoken d ⌝ }
 {
@@ -49,10 +51,17 @@ fn spoken(d: Dialect) -> bool
     (terms.application == codes::CX) & (reading::UAR <= d.command) & (d.command <= reading::MAR)
 }
 
-// The header's first fault, 0 where there is none.
-fn header_fault(req: &[u8], d: Dialect) -> u32
+fn spoken_sh(d: Dialect) -> bool
+    ensures { λ r. ⌜ r ≡ spokenSh d ⌝ }
+{
+    let terms = d.terms;
+    (terms.application == codes::SH) & (d.command == reading::UDR)
+}
+
+// The header's first fault, 0 where there is none, by whether the application has the command.
+fn header_fault_by(req: &[u8], d: Dialect, has: bool) -> u32
     requires { ⌜ 20 ≤ length (now req) ⌝ }
-    ensures { λ r. ⌜ r ≡ headerFault d (now (req .entry)) ⌝ }
+    ensures { λ r. ⌜ r ≡ headerFaultBy has d (now (req .entry)) ⌝ }
 {
     let terms = d.terms;
     if req[message::VERSION_AT] != message::VERSION {
@@ -61,13 +70,28 @@ fn header_fault(req: &[u8], d: Dialect) -> u32
     if req[message::FLAGS_AT] / message::E_BIT % 2 == 1 {
         return base::INVALID_HDR_BITS;
     }
-    if !spoken(d) {
+    if !has {
         return base::COMMAND_UNSUPPORTED;
     }
     if number::be32(req, message::APPLICATION_AT) != terms.application {
         return base::APPLICATION_UNSUPPORTED;
     }
     0
+}
+
+// The same at the Cx server, and at the Sh server.
+fn header_fault(req: &[u8], d: Dialect) -> u32
+    requires { ⌜ 20 ≤ length (now req) ⌝ }
+    ensures { λ r. ⌜ r ≡ headerFault d (now (req .entry)) ⌝ }
+{
+    header_fault_by(req, d, spoken(d))
+}
+
+fn header_fault_sh(req: &[u8], d: Dialect) -> u32
+    requires { ⌜ 20 ≤ length (now req) ⌝ }
+    ensures { λ r. ⌜ r ≡ headerFaultSh d (now (req .entry)) ⌝ }
+{
+    header_fault_by(req, d, spoken_sh(d))
 }
 
 // (b) Whether the first AVP is another than Session-Id.
@@ -117,20 +141,33 @@ fn complete(s: &[u8], d: Dialect, places: [usize; kinds::KINDS], w: Walked) -> W
     }
 }
 
-// The request read in a dialect: the first fault, or its AVPs, whose places are left in what is lent.
-pub fn read_in(req: &[u8], d: Dialect, places: &mut [usize; kinds::KINDS]) -> Walked
-    requires { ⌜ 20 ≤ length (now req) ⌝ }
-    ensures { λ r. ⌜ judgedOf (now (req .entry)) (now (places .exit)) r ≡ readIn d (now (req .entry)) ⌝ }
+// The request read in a dialect, its header's fault being known: the first fault, or its AVPs, whose places are left in what is lent.
+fn read_by(req: &[u8], d: Dialect, fault: u32, places: &mut [usize; kinds::KINDS]) -> Walked
+    ensures { λ r. ⌜ judgedOf (now (req .entry)) (now (places .exit)) r ≡ readBy fault d (now (req .entry)) ⌝ }
 {
-    let n = header_fault(req, d);
-    if n != 0 {
-        return walk::refuse(n, 0, 0);
+    if fault != 0 {
+        return walk::refuse(fault, 0, 0);
     }
     if first_other(req) {
         return walk::refuse(base::MISSING_AVP, 0, kinds::SESSION_ID);
     }
     let w = walk::walk_message(req, d, places);
     complete(req, d, *places, w)
+}
+
+// The same at the Cx server, and at the Sh server.
+pub fn read_in(req: &[u8], d: Dialect, places: &mut [usize; kinds::KINDS]) -> Walked
+    requires { ⌜ 20 ≤ length (now req) ⌝ }
+    ensures { λ r. ⌜ judgedOf (now (req .entry)) (now (places .exit)) r ≡ readIn d (now (req .entry)) ⌝ }
+{
+    read_by(req, d, header_fault(req, d), places)
+}
+
+pub fn read_sh(req: &[u8], d: Dialect, places: &mut [usize; kinds::KINDS]) -> Walked
+    requires { ⌜ 20 ≤ length (now req) ⌝ }
+    ensures { λ r. ⌜ judgedOf (now (req .entry)) (now (places .exit)) r ≡ readSh d (now (req .entry)) ⌝ }
+{
+    read_by(req, d, header_fault_sh(req, d), places)
 }
 
 // Session-Id for the answer: "if it is the first AVP and passes (a) to (c)", else nothing.

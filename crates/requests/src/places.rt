@@ -6,7 +6,7 @@ ghost use Prim.Native.Nat.{_≤_, _<_};
 ghost use lib.ListN.{length};
 ghost use Rattle.diameter.specs.AvpAt.{partAt};
 ghost use Rattle.reading.specs.Kinds.{kinds};
-ghost use Rattle.requests.specs.Request.{given, valueIf, dataSeen, valueSeen, schemeOf};
+ghost use Rattle.requests.specs.Request.{given, valueIf, dataSeen, valueSeen, memberSeen};
 ghost use Rattle.reading.specs.Places.{seenOf};
 
 // The number that the 4-byte AVP at a place holds, 0 where there is none.
@@ -43,10 +43,11 @@ pub fn value_of(req: &[u8], places: [usize; kinds::KINDS], k: usize) -> u32
     value_of_place(req, places[k])
 }
 
-// The scheme in its 612, nothing where none came.
-pub fn scheme_of(req: &[u8], places: [usize; kinds::KINDS]) -> &[u8]
-    ensures { λ r. ⌜ (now r ≡ schemeOf (seenOf (now (req .entry)) places)) × (length (now r) ≤ length (now (req .entry))) ⌝ }
+// The data of the AVP in a group of kind k, nothing where none came.
+pub fn member_of(req: &[u8], places: [usize; kinds::KINDS], k: usize) -> &[u8]
+    requires { ⌜ k < kinds ⌝ }
+    ensures { λ r. ⌜ (now r ≡ memberSeen (seenOf (now (req .entry)) places) k) × (length (now r) ≤ length (now (req .entry))) ⌝ }
 {
-    let item = diameter::span_at(req, places[kinds::AUTH_DATA_ITEM], req.len());
-    diameter::part(req, diameter::span_at(req, item.from, item.end))
+    let group = diameter::span_at(req, places[k], req.len());
+    diameter::part(req, diameter::span_at(req, group.from, group.end))
 }

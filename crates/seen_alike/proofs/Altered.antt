@@ -26,6 +26,7 @@ use Rattle.rewrite.proofs.Unchanged.{held-all}
 use Rattle.reading.specs.Kinds.{serverName}
 use Rattle.reading.specs.Rules.{Seen}
 use Rattle.reading.specs.declared.Dialect.{Dialect}
+use Rattle.requests.specs.Features.{beyondSet}
 use Rattle.requests.specs.Judged.{Judged, bad, fine}
 use Rattle.requests.specs.Request.{readIn, dataSeen}
 use Rattle.choices.specs.declared.plan.Deed.{Deed}
@@ -33,7 +34,8 @@ use Rattle.choices.specs.declared.plan.Deed.the-variants.{Leave, Settle, Challe
 use Rattle.assignment.specs.Assignment.{plannedRecords}
 use Rattle.deciding.specs.Plans.{assignmentOf, planRead}
 use Rattle.deciding.specs.Rules.{inForce}
-use Rattle.deciding.specs.Decide.{performedBy, judgedBy, decideBy, decide}
+use Rattle.deciding.specs.Decide.{Decision, performedBy, judgedBy, decideBy, decide}
+use Rattle.deciding.proofs.Tests.{each}
 use Rattle.deciding.specs.Deeds.{carriedOut}
 use Rattle.deciding.specs.DeedFits.{DeedFits}
 use Rattle.deciding.proofs.Deeds.{plan-fits}
@@ -153,5 +155,7 @@ module _ (t u : List ℕ) (count : ℕ) (sound : SoundTable t count) (other : So
           → alteredUpTo t (judgedBy inForce dialect req t count v j .table) count ≡ alteredUpTo u (judgedBy inForce dialect req u count v j .table) count
       go (bad f) e = altered-none t count ∙ sym (altered-none u count)
       go (fine seen) e =
-          rw (← plan-same t u count sound alike dialect req v seen e)
-          (deed-altered dialect req v seen (planRead dialect req t count v seen .deed) (plan-fits dialect req t count v seen e))
+          each (λ (d b : Decision). alteredUpTo t (d .table) count ≡ alteredUpTo u (b .table) count) (beyondSet (dialect .terms) req)
+          (altered-none t count ∙ sym (altered-none u count))
+          (rw (← plan-same t u count sound alike dialect req v seen e)
+          (deed-altered dialect req v seen (planRead dialect req t count v seen .deed) (plan-fits dialect req t count v seen e)))

@@ -28,7 +28,7 @@ use Rattle.seen_alike.proofs.Plans.{Asks, given-alike}
 none-sent : (dialect : Dialect) (req t : List ℕ) (count : ℕ) (v : List ℕ) → (dialect .command ≡ 303 → ⊥) → decide dialect req t count v .given .sent ≡ noneSent
 unfolding performedBy
 none-sent dialect req t count v n =
-    decide-by dialect req t count v (λ d. d .given .sent ≡ noneSent) (λ f e b. refl) (λ seen e p c. go seen p c)
+    decide-by dialect req t count v (λ d. d .given .sent ≡ noneSent) (λ f b. refl) (λ seen e p c. go seen p c)
   where
     go : (seen : Seen) (p : Plan) → Comes dialect req t count v seen p → p .given .sent ≡ noneSent
     go seen p (tells g x) = x .none

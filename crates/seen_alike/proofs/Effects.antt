@@ -20,6 +20,7 @@ use Rattle.diameter.specs.Put.{All}
 use Rattle.reading.specs.Kinds.{serverName}
 use Rattle.reading.specs.Rules.{Seen}
 use Rattle.reading.specs.declared.Dialect.{Dialect}
+use Rattle.requests.specs.Features.{beyondSet}
 use Rattle.requests.specs.Judged.{Judged, bad, fine}
 use Rattle.requests.specs.Request.{readIn, dataSeen}
 use Rattle.choices.specs.declared.plan.Deed.{Deed}
@@ -27,7 +28,8 @@ use Rattle.choices.specs.declared.plan.Deed.the-variants.{Leave, Settle, Challe
 use Rattle.assignment.specs.Assignment.{plannedRecords}
 use Rattle.deciding.specs.Plans.{assignmentOf, planRead}
 use Rattle.deciding.specs.Rules.{inForce}
-use Rattle.deciding.specs.Decide.{performedBy, judgedBy, decideBy, decide}
+use Rattle.deciding.specs.Decide.{Decision, performedBy, judgedBy, decideBy, decide}
+use Rattle.deciding.proofs.Tests.{each}
 use Rattle.deciding.specs.Deeds.{carriedOut}
 use Rattle.deciding.specs.DeedFits.{DeedFits}
 use Rattle.deciding.proofs.Deeds.{plan-fits}
@@ -158,5 +160,6 @@ module _ (t u : List ℕ) (count : ℕ) (sound : SoundTable t count) (other : So
           (judgedBy inForce dialect req u count v j .table) count
       go (bad f) e = alike
       go (fine seen) e =
-          rw (← plan-same t u count sound alike dialect req v seen e)
-          (deed-alike dialect req v seen (planRead dialect req t count v seen .deed) (plan-fits dialect req t count v seen e))
+          each (λ (d b : Decision). AlikeTables (d .table) (b .table) count) (beyondSet (dialect .terms) req) alike
+          (rw (← plan-same t u count sound alike dialect req v seen e)
+          (deed-alike dialect req v seen (planRead dialect req t count v seen .deed) (plan-fits dialect req t count v seen e)))

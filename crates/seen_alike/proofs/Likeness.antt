@@ -18,7 +18,7 @@ use Rattle.deciding.specs.Plans.{planRead}
 use Rattle.deciding.specs.Decide.{decide}
 use Rattle.calling.specs.Lent.{Lent, holding, dialectIn}
 use Rattle.calling.specs.Trial.{Trial, tried}
-use Rattle.calling.specs.Serve.{Served, SameCall, checkOf, checkValue, refused, answered, decision, resultOf, serveFound, serveTableBy, serveTable}
+use Rattle.calling.specs.Serve.{Served, SameCall, checkOf, checkValue, refused, answered, answeredBy, decision, resultOf, serveFound, serveTableBy, serveTable}
 use Rattle.seen_alike.specs.Alike.{AlikeTables}
 use Rattle.seen_alike.proofs.Together.{tables-sight, asks-any, plan-same, given-same, vectors-same}
 use Rattle.seen_alike.proofs.Plans.{place-same}
@@ -86,7 +86,7 @@ module _ (x : Lent) (u : List ℕ) (count : ℕ) (first : checkOf x ≡ Sound co
       (tried-both P (refused x) (refused (holding x u)) (answered x (decision x count)) (answered (holding x u) (decision (holding x u) count)) f h _)
 
   pub serve-alike : SameCall (serveTable x) (serveTable (holding x u))
-  unfolding refused answered
+  unfolding refused answeredBy
   serve-alike =
       let bytes = decision-alike (x .table) u count sound alike (dialectIn x) (x .request) (x .profile) (x .vectors) in
       both-by SameCall (λ r. record { call = refl; vectors = refl; buffer = refl })
@@ -97,7 +97,7 @@ module _ (x : Lent) (u : List ℕ) (count : ℕ) (first : checkOf x ≡ Sound co
       })
 
   pub serve-after : AlikeTables (serveTable x .table) (serveTable (holding x u) .table) count
-  unfolding refused answered
+  unfolding refused answeredBy
   serve-after =
       both-by (λ r s. AlikeTables (r .table) (s .table) count) (λ r. alike)
       (table-alike (x .table) u count sound alike other (dialectIn x) (x .request) (x .vectors))
@@ -110,7 +110,7 @@ module _ (x : Lent) (u : List ℕ) (count : ℕ) (first : checkOf x ≡ Sound co
       ∙ sym (ap (λ (c : Checked). decision (holding x u) (checkValue c) .given .verdict .result) second)
 
   pub serve-altered : Bytes (x .table) → Bytes u → alteredUpTo (x .table) (serveTable x .table) count ≡ alteredUpTo u (serveTable (holding x u) .table) count
-  unfolding refused answered
+  unfolding refused answeredBy
   serve-altered bytes other-bytes =
       both-by (λ r s. alteredUpTo (x .table) (r .table) count ≡ alteredUpTo u (s .table) count)
       (λ r. altered-none (x .table) count ∙ sym (altered-none u count))

@@ -6,13 +6,15 @@ use Rattle.diameter.specs.Put.{All}
 use Rattle.reading.specs.Kinds.{rowOf, known, useIn, userName, publicIdentity, visitedNetwork, authorizationType, numberAuthItems}
 use Rattle.reading.specs.Rules.{Seen}
 use Rattle.reading.specs.declared.Dialect.{Dialect}
+use Rattle.requests.specs.Features.{beyondSet}
 use Rattle.requests.specs.Judged.{Judged, bad, fine}
 use Rattle.requests.specs.Request.{readIn, given, dataSeen, valueSeen, schemeOf, identities}
 use Rattle.requests.proofs.Kept.{read-needed}
 use Rattle.deciding.specs.Plans.{assignmentOf, uarPlan, sarPlan, lirPlan, marPlan, planRead}
 use Rattle.deciding.specs.Rules.{inForce}
-use Rattle.deciding.specs.Decide.{performedBy, judgedBy, decideBy, decide}
+use Rattle.deciding.specs.Decide.{Decision, featureUnsupported, performedBy, judgedBy, decideBy, decide}
 use Rattle.deciding.proofs.Read.{read-command}
+use Rattle.deciding.proofs.Tests.{each}
 use Rattle.seen_alike.specs.Shown.{SameSight}
 use Rattle.seen_alike.proofs.Decisions.{GivenAlike, PlanAlike, fault-alike, only-alike, authorize-alike, locate-alike, authenticate-alike}
 use Rattle.seen_alike.proofs.Assignments.{assign-alike}
@@ -90,7 +92,9 @@ module _ {file other t u : List ℕ} {count many : ℕ} {Like : ℕ → ℕ → 
       go : (j : Judged) → readIn dialect req ≡ j
           → GivenAlike Like (judgedBy inForce dialect req t count v j .given) (judgedBy inForce dialect req u many w j .given)
       go (bad f) e = fault-alike Like f
-      go (fine seen) e = plan-alike seen (asks seen e) e .given
+      go (fine seen) e =
+          each (λ (d b : Decision). GivenAlike Like (d .given) (b .given)) (beyondSet (dialect .terms) req) (fault-alike Like featureUnsupported)
+          (plan-alike seen (asks seen e) e .given)
 
 -- the place is reading's alone
 pub place-same : (t u : List ℕ) (count many : ℕ) (dialect : Dialect) (req v w : List ℕ)
@@ -100,4 +104,4 @@ place-same t u count many dialect req v w = go (readIn dialect req)
   where
     go : (j : Judged) → judgedBy inForce dialect req t count v j .place ≡ judgedBy inForce dialect req u many w j .place
     go (bad f) = refl
-    go (fine seen) = refl
+    go (fine seen) = each (λ (d b : Decision). d .place ≡ b .place) (beyondSet (dialect .terms) req) refl refl

@@ -18,6 +18,7 @@ use Rattle.diameter.specs.Put.{All}
 use Rattle.diameter.specs.Message.{bodyOf}
 use Rattle.reading.specs.Rules.{Seen}
 use Rattle.reading.specs.declared.Dialect.{Dialect}
+use Rattle.requests.specs.Features.{beyondSet}
 use Rattle.requests.specs.Judged.{Judged, bad, fine}
 use Rattle.requests.specs.Request.{readIn, identities}
 use Rattle.choices.specs.declared.Given.{Given}
@@ -27,7 +28,8 @@ use Rattle.choices.specs.declared.plan.Plan.{Plan}
 use Rattle.assignment.specs.Assignment.{Assignment, plannedRecords}
 use Rattle.deciding.specs.Plans.{assignmentOf, planRead}
 use Rattle.deciding.specs.Rules.{inForce}
-use Rattle.deciding.specs.Decide.{performedBy, judgedBy, decideBy, decide}
+use Rattle.deciding.specs.Decide.{Decision, performedBy, judgedBy, decideBy, decide}
+use Rattle.deciding.proofs.Tests as tests
 use Rattle.deciding.specs.Deeds.{spentBy}
 use Rattle.seen_alike.specs.Alike.{AlikeTables}
 use Rattle.seen_alike.specs.Shown.{SameRecord, SameSight, numbersUpTo, Each, FoundAlike, BlockAlike}
@@ -188,7 +190,8 @@ module _ (t u : List ℕ) (count : ℕ) (sound : SoundTable t count) (alike : Al
       where
         go : (j : Judged) → readIn dialect req ≡ j → judgedBy inForce dialect req t count v j .given ≡ judgedBy inForce dialect req u count v j .given
         go (bad f) e = refl
-        go (fine seen) e = ap (λ (p : Plan). p .given) (plan-same seen e)
+        go (fine seen) e =
+            tests.each (λ (d b : Decision). d .given ≡ b .given) (beyondSet (dialect .terms) req) refl (ap (λ (p : Plan). p .given) (plan-same seen e))
 
     pub vectors-same : decide dialect req t count v .vectors ≡ decide dialect req u count v .vectors
     unfolding decideBy judgedBy performedBy
@@ -196,4 +199,6 @@ module _ (t u : List ℕ) (count : ℕ) (sound : SoundTable t count) (alike : Al
       where
         go : (j : Judged) → readIn dialect req ≡ j → judgedBy inForce dialect req t count v j .vectors ≡ judgedBy inForce dialect req u count v j .vectors
         go (bad f) e = refl
-        go (fine seen) e = ap (λ (p : Plan). spentBy v (p .given .sent) (p .deed)) (plan-same seen e)
+        go (fine seen) e =
+            tests.each (λ (d b : Decision). d .vectors ≡ b .vectors) (beyondSet (dialect .terms) req) refl
+            (ap (λ (p : Plan). spentBy v (p .given .sent) (p .deed)) (plan-same seen e))

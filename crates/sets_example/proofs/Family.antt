@@ -75,7 +75,7 @@ unfolding opened head line family
 family-sound = refl
 
 abbrev pub registration : Lent
-registration = lent (assignment 1 s) (family 0 0 []) [] [] room (underCx 3588)
+registration = lent (assignment 1 s) (family 0 0 []) [] [] room (underCx 3588 0)
 
 pub registered : serveTable registration
     ≡ record {
@@ -92,7 +92,7 @@ unfoldable challenged : List ℕ
 challenged = head 3 ++ (line 1 0x61 0x70 1 0 1 s ++ (line 2 0x62 0x70 1 0 1 s ++ line 3 0x63 0x70 0 0 0 []))
 
 challenge : Lent
-challenge = lent (authentication 1 s) (family 0 0 []) [] (vector 0 0x70 0x20) room (underCx 3588)
+challenge = lent (authentication 1 s) (family 0 0 []) [] (vector 0 0x70 0x20) room (underCx 3588 0)
 
 card-sound : checkVectors (vector 0 0x70 0x20) ≡ Sound 1
 unfolding opened
@@ -108,7 +108,7 @@ unfoldable pub asking : List ℕ
 asking = request 300 (common ++ (avpBytes 1 (0x70 ∷ []) ++ (vendorBytes 601 (0x61 ∷ []) ++ (vendorBytes 600 (0x76 ∷ []) ++ vendorNumber 623 1))))
 
 abbrev pub admitted : Lent
-admitted = lent asking (family 2 1 s) [] [] room (underCx 3588)
+admitted = lent asking (family 2 1 s) [] [] room (underCx 3588 0)
 
 pub barred-sound : checkTable (family 2 1 s) 0 ≡ Sound 3
 unfolding opened head line family
@@ -131,7 +131,7 @@ pub shut-sound : checkTable shut 0 ≡ Sound 3
 unfolding opened head line shut
 shut-sound = refl
 
-turned-away : serveTable (lent asking shut [] [] room (underCx 3588))
+turned-away : serveTable (lent asking shut [] [] room (underCx 3588 0))
     ≡ record {
       call = Answered (record { length = 116; place = 0 });
       table = shut;
@@ -139,7 +139,7 @@ turned-away : serveTable (lent asking shut [] [] room (underCx 3588))
       buffer = over (reply 300 (numberBytes 268 5003) []) room;
     }
 unfolding opened head line shut asking
-turned-away = come (lent asking shut [] [] room (underCx 3588)) roomy shut-sound no-vectors refl
+turned-away = come (lent asking shut [] [] room (underCx 3588 0)) roomy shut-sound no-vectors refl
 
 -- The theorems have instances: the registered family's members agree; a first edition's table is served as it was before sets, and before 02 [7].
 one-set : sameSet (blockOf (serveTable registration .table) 1) (blockOf (serveTable registration .table) 2) ≡ true
@@ -150,7 +150,7 @@ met-agreement : agreeing (blockOf (serveTable registration .table) 1) (blockOf (
 met-agreement = members-agree registration 3 family-sound 1 2 (omega arith) (omega arith) (omega arith) one-set
 
 alone : Lent
-alone = lent (assignment 5 s) (one 0 1 s) [] [] room (underCx 3588)
+alone = lent (assignment 5 s) (one 0 1 s) [] [] room (underCx 3588 0)
 
 alone-first : editionOf (blockOf (one 0 1 s) 0) ≡ 1
 unfolding opened

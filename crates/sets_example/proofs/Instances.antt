@@ -15,7 +15,6 @@ use Rattle.diameter.specs.Message.{commandOf}
 use Rattle.reading.specs.Kinds.{userName, visitedNetwork, authorizationType}
 use Rattle.reading.specs.Rules.{Seen}
 use Rattle.reading.specs.declared.Outcome.the-variants.{Base, Experimental}
-use Rattle.requests.specs.Judged.{fine}
 use Rattle.requests.specs.Request.{dialectOf, underCx, readIn, dataSeen, valueSeen}
 use Rattle.choices.specs.Choices.{authorization}
 use Rattle.choices.specs.Given.{givenServer}
@@ -28,6 +27,7 @@ use Rattle.calling.specs.Trial.{anyHolds}
 use Rattle.calling.proofs.Areas.{served-in}
 use Rattle.ndushavire.specs.Word.{checkWord}
 use Rattle.ndushavire.specs.Reads.{ReadsCheck}
+use Rattle.demands.specs.Call.{Decides}
 use Rattle.demands.specs.Sets.{Shares, Agrees, Disagrees, Stands, Belongs, Barred}
 use Rattle.pen.specs.Bytes.{avpBytes, vendorBytes, vendorNumber}
 use Rattle.worked_examples.proofs.Computed.{roomy}
@@ -59,11 +59,11 @@ unfolding opened asking
 is-uar = refl
 
 asked : Seen
-asked = seenIn (readIn (dialectOf (underCx 3588) asking) asking)
+asked = seenIn (readIn (dialectOf (underCx 3588 0) asking) asking)
 
-asks : readIn (dialectOf (underCx 3588) asking) asking ≡ fine asked
+asks : Decides (dialectOf (underCx 3588 0) asking) asking asked
 unfolding opened asking asked
-asks = refl
+asks = record { read = refl; inside = refl }
 
 asked-public : dataSeen asked 8 ≡ 0x61 ∷ []
 unfolding opened asking asked
@@ -137,12 +137,12 @@ apart-front = read-front apart piece apart-size
 met-blamed-check : ReadsCheck 5 (Bad 2) (checkWord 5 (checkArea (apart ++ piece) 0))
 met-blamed-check = sets.later-blamed-check (apart ++ piece) [] 1 2 (rw apart-front disagreeing) (record { answer = refl })
 
-none-early : anyHolds (earlyTrials (underCx 3588) asking room) ≡ false
+none-early : anyHolds (earlyTrials (underCx 3588 0) asking room) ≡ false
 unfolding opened asking anyHolds wrongLength
 none-early = rw roomy
 
-met-blamed-call : serve (lent asking (apart ++ piece) [] [] room (underCx 3588)) .call ≡ Refused 5 2
-met-blamed-call = sets.later-blamed-call (lent asking (apart ++ piece) [] [] room (underCx 3588)) 1 2 none-early (rw apart-front disagreeing)
+met-blamed-call : serve (lent asking (apart ++ piece) [] [] room (underCx 3588 0)) .call ≡ Refused 5 2
+met-blamed-call = sets.later-blamed-call (lent asking (apart ++ piece) [] [] room (underCx 3588 0)) 1 2 none-early (rw apart-front disagreeing)
 
 -- B5003 where both are barred, before X5004: a UAR of type 0 asks for the network, of which the header names none, and with `b` free it comes to that
 unfoldable visitingAs : ℕ → List ℕ
@@ -152,15 +152,15 @@ abbrev visiting : List ℕ
 visiting = visitingAs 0x70
 
 abbrev turnedOut : Lent
-turnedOut = lent visiting shut [] [] room (underCx 3588)
+turnedOut = lent visiting shut [] [] room (underCx 3588 0)
 
 visits : commandOf visiting ≡ 300
 unfolding opened visitingAs
 visits = refl
 
-no-network : resultOf (tableOnly (within (lent visiting (family 2 1 s) [] [] room (underCx 3588)))) ≡ Experimental 5004
+no-network : resultOf (tableOnly (within (lent visiting (family 2 1 s) [] [] room (underCx 3588 0)))) ≡ Experimental 5004
 unfolding opened head line family visitingAs
-no-network = result-front (lent visiting (family 2 1 s) [] [] room (underCx 3588)) 3 barred-sound (Experimental 5004) refl
+no-network = result-front (lent visiting (family 2 1 s) [] [] room (underCx 3588 0)) 3 barred-sound (Experimental 5004) refl
 
 out-result : resultOf (tableOnly (within turnedOut)) ≡ Base 5003
 unfolding opened head line shut visitingAs
@@ -182,7 +182,7 @@ met-uar = sets.barred-uar (within turnedOut) out-result
 -- .. after X5001, over a table of no record, and over one that bars `a` where the User-Name alone is unknown; and after X5002, where `a` is another's and `b`
 -- is of the User-Name
 abbrev unheard : Lent
-unheard = lent asking (head 0) [] [] room (underCx 3588)
+unheard = lent asking (head 0) [] [] room (underCx 3588 0)
 
 unheard-sound : checkTable (head 0) 0 ≡ Sound 0
 unfolding opened head
@@ -200,18 +200,18 @@ unfolding opened head line lonely
 lonely-sound = refl
 
 abbrev unnamed : Lent
-unnamed = lent (visitingAs 0x71) lonely [] [] room (underCx 3588)
+unnamed = lent (visitingAs 0x71) lonely [] [] room (underCx 3588 0)
 
 unnamed-uar : commandOf (visitingAs 0x71) ≡ 300
 unfolding opened visitingAs
 unnamed-uar = refl
 
 unnamed-asked : Seen
-unnamed-asked = seenIn (readIn (dialectOf (underCx 3588) (visitingAs 0x71)) (visitingAs 0x71))
+unnamed-asked = seenIn (readIn (dialectOf (underCx 3588 0) (visitingAs 0x71)) (visitingAs 0x71))
 
-unnamed-asks : readIn (dialectOf (underCx 3588) (visitingAs 0x71)) (visitingAs 0x71) ≡ fine unnamed-asked
+unnamed-asks : Decides (dialectOf (underCx 3588 0) (visitingAs 0x71)) (visitingAs 0x71) unnamed-asked
 unfolding opened visitingAs unnamed-asked
-unnamed-asks = refl
+unnamed-asks = record { read = refl; inside = refl }
 
 no-record : (k : ℕ) → Belongs lonely 1 k (dataSeen unnamed-asked userName) → ⊥
 unfolding opened head line lonely visitingAs unnamed-asked
@@ -230,7 +230,7 @@ unfoldable pub strangers : List ℕ
 strangers = head 2 ++ (line 1 0x61 0x71 1 1 2 s ++ line 2 0x62 0x70 1 1 2 s)
 
 abbrev stranger : Lent
-stranger = lent asking strangers [] [] room (underCx 3588)
+stranger = lent asking strangers [] [] room (underCx 3588 0)
 
 pub strangers-sound : checkTable strangers 0 ≡ Sound 2
 unfolding opened head line strangers

@@ -9,11 +9,11 @@ use Rattle.vectors.specs.VectorBlock.{vectorOf}
 use Rattle.diameter.specs.Message.{commandOf, bodyOf}
 use Rattle.reading.specs.Rules.{Seen}
 use Rattle.reading.specs.declared.Outcome.the-variants.{Base, Experimental}
-use Rattle.requests.specs.Judged.{fine}
 use Rattle.requests.specs.Request.{dialectOf, underCx, readIn, identities}
 use Rattle.calling.specs.Lent.{Lent, lent, tableOnly}
 use Rattle.calling.specs.Serve.{decisionBy, resultOf, serveBy, serve}
 use Rattle.older_rules.specs.WithBranch.{withBranch}
+use Rattle.demands.specs.Call.{Decides}
 use Rattle.demands.specs.Sets.{Stands}
 use Rattle.demands.specs.Unable.{AllUsed, StoresOther, NoneToSend}
 use Rattle.pen.specs.Bytes.{avpBytes, vendorBytes, vendorNumber}
@@ -36,7 +36,7 @@ unfoldable locating : List ℕ
 locating = request 302 (common ++ vendorBytes 601 (0x61 ∷ []))
 
 abbrev located : Lent
-located = lent locating (family 2 1 s) [] [] room (underCx 3588)
+located = lent locating (family 2 1 s) [] [] room (underCx 3588 0)
 
 is-lir : commandOf locating ≡ 302
 unfolding opened locating
@@ -68,10 +68,10 @@ met-every-input = unreachable.same-for-every-input (within located)
 
 -- a SAR of type 0 for `a` with another server name, and a MAR for none
 abbrev question : Lent
-question = lent (assignment 0 z) (family 2 1 s) [] [] room (underCx 3588)
+question = lent (assignment 0 z) (family 2 1 s) [] [] room (underCx 3588 0)
 
 abbrev none-asked : Lent
-none-asked = lent (authentication 0 s) (family 2 1 s) [] [] room (underCx 3588)
+none-asked = lent (authentication 0 s) (family 2 1 s) [] [] room (underCx 3588 0)
 
 question-result : resultOf (tableOnly (within question)) ≡ Base 5012
 unfolding opened head line family
@@ -99,8 +99,8 @@ stores-other : StoresOther question 3
 unfolding opened head line family named
 stores-other =
     record {
-      seen = seenIn (readIn (dialectOf (underCx 3588) (assignment 0 z)) (assignment 0 z));
-      read = refl;
+      seen = seenIn (readIn (dialectOf (underCx 3588 0) (assignment 0 z)) (assignment 0 z));
+      read = record { read = refl; inside = refl };
       asks = refl;
       identity = named;
       named = refl;
@@ -119,18 +119,18 @@ met-sar-only = unreachable.sar-only (within question) 3 (sound-front question 3 
 
 -- .. after X5001, over a table of no record; and after X5002, with the User-Name `p`, where `a` is of `q`
 abbrev unheard : Lent
-unheard = lent (assignment 0 z) (head 0) [] [] room (underCx 3588)
+unheard = lent (assignment 0 z) (head 0) [] [] room (underCx 3588 0)
 
 unheard-sound : checkTable (head 0) 0 ≡ Sound 0
 unfolding opened head
 unheard-sound = refl
 
 sar-seen : Seen
-sar-seen = seenIn (readIn (dialectOf (underCx 3588) (assignment 0 z)) (assignment 0 z))
+sar-seen = seenIn (readIn (dialectOf (underCx 3588 0) (assignment 0 z)) (assignment 0 z))
 
-sar-read : readIn (dialectOf (underCx 3588) (assignment 0 z)) (assignment 0 z) ≡ fine sar-seen
+sar-read : Decides (dialectOf (underCx 3588 0) (assignment 0 z)) (assignment 0 z) sar-seen
 unfolding opened sar-seen
-sar-read = refl
+sar-read = record { read = refl; inside = refl }
 
 sar-names : identities (bodyOf (assignment 0 z)) ≡ named ∷ []
 unfolding opened named
@@ -147,18 +147,18 @@ naming =
     (common ++ (avpBytes 1 (0x70 ∷ []) ++ (vendorBytes 601 (0x61 ∷ []) ++ (vendorBytes 602 z ++ (vendorNumber 614 0 ++ vendorNumber 624 1)))))
 
 abbrev stranger : Lent
-stranger = lent naming strangers [] [] room (underCx 3588)
+stranger = lent naming strangers [] [] room (underCx 3588 0)
 
 is-naming : commandOf naming ≡ 301
 unfolding opened naming
 is-naming = refl
 
 naming-seen : Seen
-naming-seen = seenIn (readIn (dialectOf (underCx 3588) naming) naming)
+naming-seen = seenIn (readIn (dialectOf (underCx 3588 0) naming) naming)
 
-naming-read : readIn (dialectOf (underCx 3588) naming) naming ≡ fine naming-seen
+naming-read : Decides (dialectOf (underCx 3588 0) naming) naming naming-seen
 unfolding opened naming naming-seen
-naming-read = refl
+naming-read = record { read = refl; inside = refl }
 
 naming-names : identities (bodyOf naming) ≡ named ∷ []
 unfolding opened naming named
@@ -180,8 +180,8 @@ none-to-send : NoneToSend none-asked 3
 unfolding opened head line family
 none-to-send =
     record {
-      seen = seenIn (readIn (dialectOf (underCx 3588) (authentication 0 s)) (authentication 0 s));
-      read = refl;
+      seen = seenIn (readIn (dialectOf (underCx 3588 0) (authentication 0 s)) (authentication 0 s));
+      read = record { read = refl; inside = refl };
       block = 1;
       public = record { from = lit≤ tt; to = lit≤ tt; name = refl };
       private = refl;
@@ -194,7 +194,7 @@ met-mar-stays =
     unreachable.mar-stays (within none-asked) 3 (sound-front none-asked 3 barred-sound) (is-mar 0) (rw (in-front none-asked 3 barred-sound) none-to-send)
 
 abbrev all-sent : Lent
-all-sent = lent (authentication 1 s) (family 2 1 s) [] (vector 1 0x70 1) room (underCx 3588)
+all-sent = lent (authentication 1 s) (family 2 1 s) [] (vector 1 0x70 1) room (underCx 3588 0)
 
 all-used : AllUsed (vector 1 0x70 1) (0x70 ∷ [])
 unfolding opened
@@ -207,8 +207,8 @@ none-left : NoneToSend all-sent 3
 unfolding opened head line family
 none-left =
     record {
-      seen = seenIn (readIn (dialectOf (underCx 3588) (authentication 1 s)) (authentication 1 s));
-      read = refl;
+      seen = seenIn (readIn (dialectOf (underCx 3588 0) (authentication 1 s)) (authentication 1 s));
+      read = record { read = refl; inside = refl };
       block = 1;
       public = record { from = lit≤ tt; to = lit≤ tt; name = refl };
       private = refl;
@@ -225,14 +225,14 @@ met-mar-only = unreachable.mar-only (within none-asked) 3 (sound-front none-aske
 
 -- .. after X5001, X5002 and X5006, though none is asked
 mar-seen : Seen
-mar-seen = seenIn (readIn (dialectOf (underCx 3588) (authentication 0 s)) (authentication 0 s))
+mar-seen = seenIn (readIn (dialectOf (underCx 3588 0) (authentication 0 s)) (authentication 0 s))
 
-mar-read : readIn (dialectOf (underCx 3588) (authentication 0 s)) (authentication 0 s) ≡ fine mar-seen
+mar-read : Decides (dialectOf (underCx 3588 0) (authentication 0 s)) (authentication 0 s) mar-seen
 unfolding opened mar-seen
-mar-read = refl
+mar-read = record { read = refl; inside = refl }
 
 abbrev unheard-mar : Lent
-unheard-mar = lent (authentication 0 s) (head 0) [] [] room (underCx 3588)
+unheard-mar = lent (authentication 0 s) (head 0) [] [] room (underCx 3588 0)
 
 met-mar-unknown : resultOf (tableOnly (within unheard-mar)) ≡ Experimental 5001
 met-mar-unknown =
@@ -240,7 +240,7 @@ met-mar-unknown =
     (inl (λ k p. omega (arith, p .from, p .to)))
 
 abbrev stranger-mar : Lent
-stranger-mar = lent (authentication 0 s) strangers [] [] room (underCx 3588)
+stranger-mar = lent (authentication 0 s) strangers [] [] room (underCx 3588 0)
 
 met-mar-apart : resultOf (tableOnly (within stranger-mar)) ≡ Experimental 5002
 unfolding opened mar-seen
@@ -253,18 +253,18 @@ unfoldable otherwise : List ℕ
 otherwise = authenticationOf 0x70 0x61 (vendorBytes 608 (0x78 ∷ [])) 0 s
 
 abbrev unserved : Lent
-unserved = lent otherwise (family 2 1 s) [] [] room (underCx 3588)
+unserved = lent otherwise (family 2 1 s) [] [] room (underCx 3588 0)
 
 is-otherwise : commandOf otherwise ≡ 303
 unfolding opened otherwise
 is-otherwise = refl
 
 otherwise-seen : Seen
-otherwise-seen = seenIn (readIn (dialectOf (underCx 3588) otherwise) otherwise)
+otherwise-seen = seenIn (readIn (dialectOf (underCx 3588 0) otherwise) otherwise)
 
-otherwise-read : readIn (dialectOf (underCx 3588) otherwise) otherwise ≡ fine otherwise-seen
+otherwise-read : Decides (dialectOf (underCx 3588 0) otherwise) otherwise otherwise-seen
 unfolding opened otherwise otherwise-seen
-otherwise-read = refl
+otherwise-read = record { read = refl; inside = refl }
 
 a-stands : Stands (family 2 1 s) 3 1 (0x61 ∷ [])
 unfolding opened head line family

@@ -4,8 +4,8 @@ use Rattle.vectors.specs.Chosen.{unusedOf, sentOf}
 use Rattle.vectors.specs.Marked.{spent}
 use Rattle.vectors.specs.VectorFile.{SoundVectors}
 use Rattle.calling.specs.Lent.{Lent, dialectIn}
-use Rattle.calling.specs.Trial.{anyHolds, Trial}
-use Rattle.calling.specs.Serve.{checkOf, trials, refused, answered, serveTable, checkValue, decided}
+use Rattle.calling.specs.Trial.{anyHolds}
+use Rattle.calling.specs.Serve.{checkOf, trials, refused, answeredBy, serveTable, checkValue, decided}
 use Rattle.calling.proofs.Kept.{taken, serve-either, answered-is}
 use Rattle.vectors_sent.specs.Sent.{sentBy, Challenges, userOf, askedBy}
 use Rattle.vectors_sent.proofs.Cases.{Cases, other, success, decide-cases}
@@ -41,7 +41,7 @@ module _ (x : Lent) where
     sent-is = rw none-holds
 
     vectors-are : serveTable x .vectors ≡ decided x .vectors
-    unfolding answered
+    unfolding answeredBy
     vectors-are = rw (answered-is x none-holds)
 
     decided-case : Cases (dialectIn x) (x .request) (x .table) (checkValue (checkOf x)) v (decided x) → Quiet ⊎ Sending

@@ -62,7 +62,7 @@ pub decide-cases : (dialect : Dialect) (req t : List ℕ) (count : ℕ) (v : Lis
 unfolding performedBy spentBy toSend packed
 decide-cases dialect req t count v =
     decide-by dialect req t count v (Cases dialect req t count v)
-    (λ f e b. other (record { still = record { none = refl; kept = refl }; apart = λ c. other-result (f .result) (fails-most (f .result) b) })) go
+    (λ f b. other (record { still = record { none = refl; kept = refl }; apart = λ c. other-result (f .result) (fails-most (f .result) b) })) go
   where
     go : (seen : Seen) → readIn dialect req ≡ fine seen → (p : Plan) → Comes dialect req t count v seen p
         → Cases dialect req t count v (performedBy inForce req t count v seen p)

@@ -19,7 +19,7 @@ use Rattle.deciding.proofs.Read.{fails-most}
 use Rattle.calling.specs.Call.{Answered}
 use Rattle.calling.specs.Lent.{Lent, dialectIn}
 use Rattle.calling.specs.Trial.{anyHolds}
-use Rattle.calling.specs.Serve.{checkOf, trials, answerOf, answered, serveTable, checkValue, decided}
+use Rattle.calling.specs.Serve.{checkOf, trials, answerOf, answeredBy, serveTable, checkValue, decided}
 use Rattle.vectors_sent.specs.Sent.{sentBy, itemsFrom, saidOf, answerWith}
 use Rattle.calling.proofs.Kept.{answered-is}
 use Rattle.vectors_sent.proofs.Calls.{answered-sound}
@@ -56,7 +56,7 @@ module _ (x : Lent) (taken : anyHolds (trials x) ≡ false) where
   pub answer-says : (serveTable x .call
       ≡ Answered (record { length = length (answerWith x (decided x .given) (saidOf (x .vectors) (sentBy x))); place = decided x .place }))
       × (serveTable x .buffer ≡ over (answerWith x (decided x .given) (saidOf (x .vectors) (sentBy x))) (x .buffer))
-  unfolding answered
+  unfolding answeredBy
   answer-says = (
     rw (answered-is x taken) (ap (λ (b : List ℕ). Answered (record { length = length b; place = decided x .place })) answer-is),
     rw (answered-is x taken) (ap (λ (b : List ℕ). over b (x .buffer)) answer-is),
@@ -68,4 +68,4 @@ pub success-nowhere : (dialect : Dialect) (req t : List ℕ) (count : ℕ) (v : 
 unfolding performedBy numberOf
 success-nowhere dialect req t count v =
     decide-by dialect req t count v (λ d. d .given .verdict .result ≡ Base 2001 → d .place ≡ 0)
-    (λ f e b r. absurd (omega (arith, fails-most (f .result) b, ap numberOf r))) (λ seen e p c r. refl)
+    (λ f b r. absurd (omega (arith, fails-most (f .result) b, ap numberOf r))) (λ seen e p c r. refl)

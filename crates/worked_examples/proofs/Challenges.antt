@@ -101,10 +101,10 @@ unfolding opened stored unsent
 unsent-sound = refl
 
 to-the-byte :
-    serveTable (lent mar table [] unsent room (underCx 3588))
+    serveTable (lent mar table [] unsent room (underCx 3588 0))
     ≡ left (header 1 0 ++ line 1 1 0x73 (0xB9 ∷ 0xFC ∷ 0xFE ∷ 0xFE ∷ [])) (stored 1 (0x42 ∷ 0x98 ∷ 0x83 ∷ 0x7B ∷ [])) maa
 unfolding opened mar maa stored line table unsent
-to-the-byte = come (lent mar table [] unsent room (underCx 3588)) roomy table-sound unsent-sound refl
+to-the-byte = come (lent mar table [] unsent room (underCx 3588 0)) roomy table-sound unsent-sound refl
 
 -- Two files with what their checks answer, so that these are computed once; and a row: a request over them, and what is left.
 record Files : Type 0 where
@@ -119,7 +119,7 @@ data Row : Type 0 where
   row : Files → List ℕ → Served → Row
 
 abbrev calling : Files → List ℕ → Lent
-calling f req = lent req (f .table) [] (f .vectors) room (underCx 3588)
+calling f req = lent req (f .table) [] (f .vectors) room (underCx 3588 0)
 
 abbrev Comes : Row → Type 0
 Comes (row f req y) = serveTable (calling f req) ≡ y
@@ -201,27 +201,27 @@ unfolding opened mixed
 numbers-come = all-come numbers (refl, (refl, (refl, (refl, tt))))
 
 -- these four by name
-pub one-sent : serveTable (lent (authentication 1 s) (one 0 1 s) [] (vector 0 0x70 1) room (underCx 3588))
+pub one-sent : serveTable (lent (authentication 1 s) (one 0 1 s) [] (vector 0 0x70 1) room (underCx 3588 0))
     ≡ left (one 0 1 s) (vector 1 0x70 1) (challenges 1 (item 1 1))
 one-sent = numbers-come .0
 
-pub two-left : serveTable (lent (authentication 3 s) (one 0 1 s) [] (mixed 0 0 0) room (underCx 3588))
+pub two-left : serveTable (lent (authentication 3 s) (one 0 1 s) [] (mixed 0 0 0) room (underCx 3588 0))
     ≡ left (one 0 1 s) (mixed 0 1 1) (challenges 2 (item 1 5 ++ item 2 9))
 two-left = numbers-come .1 .0
 
 pub none-asked :
-    serveTable (lent (authentication 0 s) (one 0 1 s) [] (vector 0 0x70 1) room (underCx 3588))
+    serveTable (lent (authentication 0 s) (one 0 1 s) [] (vector 0 0x70 1) room (underCx 3588 0))
     ≡ left (one 0 1 s) (vector 0 0x70 1) (reply 303 (numberBytes 268 5012) [])
 none-asked = numbers-come .1 .1 .0
 
 pub none-unused :
-    serveTable (lent (authentication 1 s) (one 0 1 s) [] (vector 1 0x70 1) room (underCx 3588))
+    serveTable (lent (authentication 1 s) (one 0 1 s) [] (vector 1 0x70 1) room (underCx 3588 0))
     ≡ left (one 0 1 s) (vector 1 0x70 1) (reply 303 (numberBytes 268 5012) [])
 none-unused = numbers-come .1 .1 .1 .0
 
 -- "No vector is ever sent twice": the same MAR again, over what the first call left
 abbrev again : List ℕ → Served → Served
-again req y = serveTable (lent req (y .table) [] (y .vectors) room (underCx 3588))
+again req y = serveTable (lent req (y .table) [] (y .vectors) room (underCx 3588 0))
 
 twice :
     again (authentication 1 s) (again (authentication 1 s) (left (one 0 1 s) (vector 0 0x70 1) []))
@@ -243,11 +243,11 @@ items : ℕ → List ℕ
 items zero = []
 items (suc k) = items k ++ item (suc k) k
 
-at-most : decide (dialectOf (underCx 3588) (authentication 17 s)) (authentication 17 s) (one 0 1 s) 1 seventeen .given ≡ sixteen
+at-most : decide (dialectOf (underCx 3588 0) (authentication 17 s)) (authentication 17 s) (one 0 1 s) 1 seventeen .given ≡ sixteen
 unfolding opened cards sixteen
 at-most = refl
 
-at-most-sent : answerBytes (underCx 3588) (authentication 17 s) (one 0 1 s) [] seventeen sixteen ≡ challenges 16 (items 16)
+at-most-sent : answerBytes (underCx 3588 0) (authentication 17 s) (one 0 1 s) [] seventeen sixteen ≡ challenges 16 (items 16)
 unfolding opened cards sixteen items
 at-most-sent = refl
 
@@ -327,7 +327,7 @@ decided : Naming → List ℕ
 decided c =
     let t = header 1 0 ++ subscriber 1 0x61 0x70 (c .state) (c .bits) (c .name) in
     let req = authentication 1 (c .server) in
-    take 508 (blockOf (decide (dialectOf (underCx 3588) req) req t 1 (vector 0 0x70 1) .table) 1)
+    take 508 (blockOf (decide (dialectOf (underCx 3588 0) req) req t 1 (vector 0 0x70 1) .table) 1)
 
 expected : Naming → List ℕ
 expected c = take 508 (subscriber 1 0x61 0x70 (c .state) (c .bits') (c .server))

@@ -33,7 +33,7 @@ sar front =
     request 301 (avpBytes 263 (0x73 ∷ []) ++ (front ++ (common ++ own)))
 
 reading : ℕ → Case → Reading
-reading peer c = let req = sar (c .front) in readingOf (readIn (dialectOf (underCx peer) req) req)
+reading peer c = let req = sar (c .front) in readingOf (readIn (dialectOf (underCx peer 0) req) req)
 
 -- a Vendor-Id, and one of another vendor; the Auth-Application-Id; a 260 of some bytes
 v : List ℕ
@@ -69,6 +69,11 @@ cases =
     ∷ reads (holding (v ++ (v ++ (app ++ numberBytes 259 1)))) (fault 5004 32) (fault 5004 32)
     ∷ reads (holding (v ++ (headBytes 266 65 12 ++ (wordBytes 10415 ++ app)))) (fault 5004 32) (fault 5004 32)
     ∷ reads (holding (v ++ (headBytes 266 192 16 ++ (wordBytes 10415 ++ (wordBytes 10415 ++ app))))) (fault 5004 32) (fault 5004 32)
+    -- .. a Vendor-Id of 5 bytes; one that is cut off
+    ∷ reads (holding (v ++ (v ++ (app ++ avpBytes 266 (0 ∷ 0 ∷ 40 ∷ 175 ∷ 0 ∷ []))))) (fault 5004 32) (fault 5004 32)
+    ∷ reads (holding (v ++ (v ++ (app ++ headBytes 266 64 12)))) (fault 5004 32) (fault 5004 32)
+    -- a fault behind it, which is the first one under RFC 3588
+    ∷ reads (holding (v ++ (v ++ app)) ++ avpBytes 999 []) (fault 5001 76) (fault 5009 32)
     -- (c) of the 260 itself goes before; an earlier AVP's fault too; the second 260 is too often, (f), in both
     ∷ reads (headBytes 260 65 44 ++ (v ++ (v ++ app))) (fault 3009 32) (fault 3009 32)
     ∷ reads (avpBytes 999 [] ++ holding (v ++ (v ++ app))) (fault 5001 32) (fault 5001 32)

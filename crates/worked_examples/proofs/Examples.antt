@@ -24,7 +24,7 @@ data Case : Type 0 where
 
 abbrev Right : Case → Type 0
 Right (call req table room comes after bytes) =
-    serveTable (lent req table [] [] (replicate room 0) (underCx 3588)) ≡ record { call = comes; table = after; vectors = []; buffer = over bytes (replicate room 0) }
+    serveTable (lent req table [] [] (replicate room 0) (underCx 3588 0)) ≡ record { call = comes; table = after; vectors = []; buffer = over bytes (replicate room 0) }
 Right (check table answer) = checkTable table 0 ≡ answer
 Right (sum b n) = sumWords b 128 ≡ n
 
@@ -137,7 +137,7 @@ record Called (req table : List ℕ) (room : ℕ) (comes : Call) (after bytes : 
   small : Bool
   size : ltb room 36864 ≡ small
   computed : (o : List ℕ)
-      → known small answer (Sound 0) (lent req table [] [] o (underCx 3588)) ≡ record { call = comes; table = after; vectors = []; buffer = over bytes o }
+      → known small answer (Sound 0) (lent req table [] [] o (underCx 3588 0)) ≡ record { call = comes; table = after; vectors = []; buffer = over bytes o }
 
 abbrev Computes : Case → Type 0
 Computes (call req table room comes after bytes) = Called req table room comes after bytes
@@ -146,7 +146,7 @@ Computes (sum b n) = sumWords b 128 ≡ n
 
 right : (c : Case) → Computes c → Right c
 right (call req table room comes after bytes) g =
-    come (lent req table [] [] (replicate room 0) (underCx 3588)) (sized room (g .size)) (g .checked) no-vectors (g .computed (replicate room 0))
+    come (lent req table [] [] (replicate room 0) (underCx 3588 0)) (sized room (g .size)) (g .checked) no-vectors (g .computed (replicate room 0))
 right (check table answer) e = e
 right (sum b n) e = e
 

@@ -33,7 +33,7 @@ row [] = []
 row (a ∷ avps) = a ++ row avps
 
 reading : Case → Reading
-reading c = let req = request (c .command) (common ++ row (c .avps)) in readingOf (readIn (dialectOf (underCx 3588) req) req)
+reading c = let req = request (c .command) (common ++ row (c .avps)) in readingOf (readIn (dialectOf (underCx 3588 0) req) req)
 
 -- User-Name `p` and Public-Identity `a`; three items asked for, and the Server-Name `s`; a MAR whose 612, at byte 140, holds these bytes
 user : List ℕ

@@ -26,14 +26,18 @@ use Rattle.vectors.specs.Marked.{markedUsed, spent}
 use Rattle.rewrite.specs.Change.{afterOf, reaches}
 use Rattle.rewrite.specs.Renew.{renewed, settled, challenged}
 use Rattle.diameter.specs.Avp.{padded, headOf, vendorOf, valueOf, sound}
-use Rattle.diameter.specs.Walk.{walkFrom, walk}
+use Rattle.diameter.specs.Walk.{walkFrom, walk, someAvp}
 use Rattle.diameter.specs.AvpAt.{avpOf}
 use Rattle.pen.specs.Bytes.{wordBytes, padding, vendorHead, copied, avpBytes, vendorBytes, numberBytes, vendorNumber, group, vendorGroup, ifThere}
-use Rattle.pen.specs.Groups.{vendorApplication, experimental, failed, vendorNumbers, capabilities}
+use Rattle.pen.specs.Bytes.{headBytes, plainHead, plainNumber}
+use Rattle.pen.specs.Groups.{vendorApplication, experimental, failed, vendorNumbers, capabilities, ownFeatures}
 use Rattle.reading.specs.Kinds.{known, kindFrom, kindBy, rowOf, useIn}
 use Rattle.reading.specs.Contents.{numberFault, plainFault}
-use Rattle.reading.specs.Groups.{applicationMembers, itemMembers, membersOf, isOf, fits, unlike, onlyOf, membersFitting, enough, enoughAt, gathers, tooOften, groupFault}
+use Rattle.reading.specs.Features.{clearOrIn, bitOutside, memberValue, asksOther, asks, asksBeyond, passes, callsList}
+use Rattle.reading.specs.Groups.{applicationMembers, itemMembers, featureMembers, membersOf, isOf, fits, unlike, onlyOf, membersFitting, enough}
+use Rattle.reading.specs.Groups.{enoughAt, gathers, tooOften, groupFault}
 use Rattle.reading.specs.Rules.{contentFault, ruleBy, rule}
+use Rattle.requests.specs.Features.{beyondSet, listCalled}
 use Rattle.requests.specs.Judged.{nothing, judge}
 use Rattle.requests.specs.Request.{cx, headerFault, missingFrom, missing, complete, readWalk, readIn, identities}
 use Rattle.items.specs.Items.{challengeBytes, keyBytes, itemBytes, itemsBytes, numberedBytes, sentBytes}
@@ -53,10 +57,11 @@ use Rattle.deciding.specs.Plans.{assignmentOf, uarPlan, sarPlan, lirPlan, marPl
 use Rattle.deciding.specs.Decide.{performedBy, judgedBy, decideBy}
 use Rattle.reading.specs.Verdicts.{numberOf}
 use Rattle.failed.specs.Failing.{headPart, alone, failedOf, sample, exampleOf, failedBy}
-use Rattle.reply.specs.Pieces.{resultBytes, frontBytes, originBytes, topBytes, identityBytes, nameBytes, dataBytes, givenBytes, flagsOf, headerBytes}
+use Rattle.reply.specs.Pieces.{resultBytes, frontBytes, originBytes, listBytes, topBytes, identityBytes, nameBytes, dataBytes, givenBytes, flagsOf}
+use Rattle.reply.specs.Pieces.{headerBytes}
 use Rattle.answering.specs.Answer.{proxy, proxies, endBytes, restBytes, bodyBytes, answerBytes}
 use Rattle.calling.specs.Trial.{tried}
-use Rattle.calling.specs.Serve.{wrongLength, refused, answered, serveFound, serveTableBy}
+use Rattle.calling.specs.Serve.{wrongLength, refused, answeredBy, serveFound, serveTableBy}
 
 -- `hss.isle` and `isle`
 unfoldable pub host : List ℕ
@@ -129,6 +134,15 @@ common =
 unfoldable pub assignment : ℕ → List ℕ → List ℕ
 assignment kind server = request 301 (common ++ (vendorBytes 601 (0x61 ∷ []) ++ (vendorBytes 602 server ++ (vendorNumber 614 kind ++ vendorNumber 624 1))))
 
+-- a 628 of some flags, which asks for bits of a list of a vendor; the SAR with AVPs between those that every request needs and its own: they begin at 112
+unfoldable pub feature : ℕ → ℕ → ℕ → ℕ → List ℕ
+feature flags vendor list bits =
+    headBytes 628 flags 56 ++ (wordBytes 10415 ++ (numberBytes 266 vendor ++ (vendorNumber 629 list ++ vendorNumber 630 bits)))
+
+unfoldable pub assignmentWith : List ℕ → ℕ → List ℕ → List ℕ
+assignmentWith avps kind server =
+    request 301 (common ++ (avps ++ (vendorBytes 601 (0x61 ∷ []) ++ (vendorBytes 602 server ++ (vendorNumber 614 kind ++ vendorNumber 624 1)))))
+
 -- a 608 of the one scheme that is served; a MAR of a private and a public identity of one byte each: what its 612 holds, the number asked, a server name
 unfoldable pub digest : List ℕ
 digest = vendorBytes 608 scheme
@@ -170,7 +184,7 @@ z = 0x7A ∷ []
 
 -- all that a case opens
 unfoldable pub opened : ℕ
-unfolding host realm block field wordsOf checked header subscriber person vector request reply answer common assignment digest authenticationOf
+unfolding host realm block field wordsOf checked header subscriber person vector request reply answer common assignment feature assignmentWith digest authenticationOf
     authentication item challenges one waiting two s z allBelow orderOf alikeAt same be16At be24At be32At putBe24 putBe32 zeros zeroBetween putName over
     sumWords hostOf realmOf publicOf privateOf serverOf headerOf soundHeader networkOf usedPlace soundPlace sameByte otherPlace newPlace soundNetworks
     recordOf soundRecord blockOf tableOf publicAt privateAt sameSet agreeing risesAt standsAt agreesWith agreesAt soundAt firstBad checkRecords checkTable
@@ -180,11 +194,12 @@ unfolding host realm block field wordsOf checked header subscriber person vector
     walkFrom walk avpOf padding vendorHead copied avpBytes vendorBytes numberBytes vendorNumber group vendorGroup ifThere vendorApplication experimental
     failed vendorNumbers capabilities known kindFrom kindBy rowOf useIn numberFault plainFault applicationMembers itemMembers membersOf isOf fits unlike
     onlyOf membersFitting enough enoughAt gathers tooOften groupFault contentFault nothing ruleBy rule judge headerFault headPart alone failedOf sample
-    exampleOf failedBy missingFrom missing complete readWalk readIn identities placesFrom mandatoryOf optionalOf profileOf mayRoam authorization location findingOf grant
-    deedOf planOf claimOf challengeOf typeOf carried askedAt askedOf authorizeFound authorize soughtAt soughtOf locateFound locate claimedAt claimedOf
+    exampleOf failedBy missingFrom missing complete readWalk readIn identities placesFrom mandatoryOf optionalOf profileOf mayRoam authorization location
+    findingOf grant deedOf planOf claimOf challengeOf typeOf carried askedAt askedOf authorizeFound authorize soughtAt soughtOf locateFound locate claimedAt claimedOf
     toSend authenticateFound authenticate meantBy every findAll numbersOf ownedHere ownedUpTo ownAt storesAt fitsAt rightAt surveyOf userKnown ownerBy
     namedSurvey ownedSurvey assignMeant assign storedName plannedRecords carriedOut spentBy assignmentOf uarPlan sarPlan lirPlan marPlan planRead
     performedBy judgedBy decideBy numberOf resultBytes frontBytes originBytes topBytes identityBytes nameBytes dataBytes givenBytes proxy proxies endBytes
     challengeBytes keyBytes itemBytes itemsBytes numberedBytes sentBytes restBytes bodyBytes flagsOf headerBytes answerBytes tried wrongLength refused
-    answered serveFound serveTableBy
+    answeredBy serveFound serveTableBy someAvp plainHead plainNumber ownFeatures featureMembers clearOrIn bitOutside memberValue asksOther asks asksBeyond
+    passes callsList beyondSet listCalled listBytes
 opened = 0

@@ -29,6 +29,13 @@ impl Avps {
         self.pad();
     }
 
+    /// One of the server's own, without M.
+    pub fn own_unmarked(&mut self, vendor: Option<u32>, code: u32, data: &[u8]) {
+        let at = self.bytes.len();
+        self.own(vendor, code, data);
+        self.bytes[at + 4] &= !M;
+    }
+
     pub fn own_kind(&mut self, kind: Kind, data: &[u8]) {
         self.own(kind.vendor(), kind.code(), data);
     }

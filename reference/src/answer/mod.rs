@@ -1,13 +1,15 @@
 //! Writing the answer.
 
 mod avps;
+mod features;
 mod items;
+mod user_data;
 
 use avps::Avps;
 
 use crate::kinds::{
-    Kind, APPLICATION, AUTH_APPLICATION_ID, EXPERIMENTAL_RESULT, EXPERIMENTAL_RESULT_CODE, FAILED_AVP,
-    MANDATORY_CAPABILITY, OPTIONAL_CAPABILITY, RESULT_CODE, SERVER_CAPABILITIES, USER_DATA, VENDOR, VENDOR_ID,
+    Dialect, Kind, AUTH_APPLICATION_ID, EXPERIMENTAL_RESULT, EXPERIMENTAL_RESULT_CODE, FAILED_AVP,
+    MANDATORY_CAPABILITY, OPTIONAL_CAPABILITY, RESULT_CODE, SERVER_CAPABILITIES, VENDOR, VENDOR_ID,
 };
 use crate::message::{Avp, Message, E, P};
 use crate::slip::{Fault, Slip};
@@ -15,38 +17,57 @@ use crate::stated::Stated;
 use crate::table::{Header, Record};
 use crate::verdict::{Code, Failed, Verdict, Why};
 
-pub fn answer(message: Message, header: Header, verdict: &Verdict, stated: Stated, slip: Slip) -> Vec<u8> {
+pub fn answer(
+    message: Message,
+    dialect: Dialect,
+    header: Header,
+    verdict: &Verdict,
+    stated: Stated,
+    slip: Slip,
+) -> Vec<u8> {
     let mut avps = Avps::new(slip);
     let bare = slip.is(Fault::NewerErrorsBare) && stated.is_newer() && is_3xxx(verdict.result);
     if let Some(session) = session_id(message, verdict, slip) {
         avps.copy(session.whole);
     }
     if !bare {
-        avps.own_kind(Kind::VendorSpecificApplicationId, &application(slip));
+        avps.own_kind(Kind::VendorSpecificApplicationId, &application(message, dialect, slip));
     }
     result(&mut avps, verdict.result);
     avps.own_number(None, Kind::AuthSessionState.code(), 1);
     avps.own_kind(Kind::OriginHost, header.host());
+    let list = match dialect {
+        Dialect::Sh if !slip.is(Fault::OwnListInSh) => vec![],
+        _ => features::own_list(message, verdict, stated, slip),
+    };
+    // Right behind 296, but for a faulty program.
+    let list_at = |avps: &mut Avps, place: Option<Fault>| {
+        if place == features::elsewhere(slip) {
+            avps.bytes.extend(&list);
+        }
+    };
+    list_at(&mut avps, Some(Fault::OwnListBeforeRealm));
     avps.own_kind(Kind::OriginRealm, header.realm());
+    list_at(&mut avps, None);
     let name_at = avps.bytes.len();
     if let (Some(name), false) = (verdict.user_name, items::without_user_name(verdict, slip)) {
         avps.own_kind(Kind::UserName, name);
     }
+    list_at(&mut avps, Some(Fault::OwnListAfterUserName));
     if let (Some(authentication), false) = (&verdict.authentication, slip.is(Fault::ItemsLast)) {
         items::write(&mut avps, authentication, name_at);
     }
     if let Some(name) = verdict.server_name {
         avps.own_kind(Kind::ServerName, name);
     }
+    list_at(&mut avps, Some(Fault::OwnListAfterServerName));
     if let Some(record) = verdict.capabilities {
         capabilities(&mut avps, record, slip);
     }
-    match slip.0 {
-        Some(Fault::UserDataOfSetJoined) if !verdict.user_data.is_empty() => {
-            avps.own(Some(VENDOR), USER_DATA, &verdict.user_data.concat());
-        }
-        _ => verdict.user_data.iter().for_each(|data| avps.own(Some(VENDOR), USER_DATA, data)),
+    if !slip.is(Fault::ShDataLast) {
+        user_data::write(&mut avps, verdict, dialect);
     }
+    list_at(&mut avps, Some(Fault::OwnListBeforeFailedAvp));
     if !slip.is(Fault::FailedAvpLast) {
         failed_avp(&mut avps, &verdict.failed, slip);
     }
@@ -54,15 +75,18 @@ pub fn answer(message: Message, header: Header, verdict: &Verdict, stated: State
     match (slip.0, &verdict.authentication) {
         (Some(Fault::FailedAvpLast), _) => failed_avp(&mut avps, &verdict.failed, slip),
         (Some(Fault::ItemsLast), Some(authentication)) => items::write(&mut avps, authentication, name_at),
+        (Some(Fault::ShDataLast), _) => user_data::write(&mut avps, verdict, dialect),
         _ => {}
     }
 
-    let mut answer = answer_header(message, verdict.result, avps.bytes.len(), stated, slip);
+    list_at(&mut avps, Some(Fault::OwnListLast));
+
+    let mut answer = answer_header(message, dialect, verdict.result, avps.bytes.len(), stated, slip);
     answer.extend(avps.bytes);
     answer
 }
 
-fn answer_header(message: Message, result: Code, avps: usize, stated: Stated, slip: Slip) -> Vec<u8> {
+fn answer_header(message: Message, dialect: Dialect, result: Code, avps: usize, stated: Stated, slip: Slip) -> Vec<u8> {
     let mut header = message.0[..20].to_vec();
     let for_all = slip.is(Fault::EBitForAllErrors) || (slip.is(Fault::NewerEBitForErrors) && stated.is_newer());
     let has_e = match result {
@@ -76,7 +100,7 @@ fn answer_header(message: Message, result: Code, avps: usize, stated: Stated, sl
     header[..4].copy_from_slice(&(u32::from(version) << 24 | length as u32).to_be_bytes());
     header[4] = p | if has_e { E } else { 0 };
     if slip.is(Fault::ApplicationAlwaysOwn) {
-        header[8..12].copy_from_slice(&APPLICATION.to_be_bytes());
+        header[8..12].copy_from_slice(&dialect.application().to_be_bytes());
     }
     header
 }
@@ -100,10 +124,16 @@ fn session_id<'a>(message: Message<'a>, verdict: &Verdict, slip: Slip) -> Option
     message.avps().first(slip).ok().map(|(avp, _)| avp).filter(passes)
 }
 
-fn application(slip: Slip) -> Vec<u8> {
+/// The interface's own, also where the request has another.
+fn application(message: Message, dialect: Dialect, slip: Slip) -> Vec<u8> {
+    let application = match slip.0 {
+        Some(Fault::CxGroupInShAnswers) => Dialect::Cx.application(),
+        Some(Fault::GroupAsReceivedInSh) if dialect == Dialect::Sh => message.application(),
+        _ => dialect.application(),
+    };
     let mut group = Avps::new(slip);
     group.own_number(None, VENDOR_ID, VENDOR);
-    group.own_number(None, AUTH_APPLICATION_ID, APPLICATION);
+    group.own_number(None, AUTH_APPLICATION_ID, application);
     group.bytes
 }
 
@@ -147,6 +177,8 @@ fn failed_avp(avps: &mut Avps, failed: &Failed, slip: Slip) {
                 Some(Fault::ExampleDataTurned) => true,
                 Some(Fault::NumberExampleEmpty) => *kind == Kind::SipNumberAuthItems,
                 Some(Fault::ItemExampleOf4) => *kind == Kind::SipAuthDataItem,
+                Some(Fault::ReferenceExampleEmpty) => *kind == Kind::DataReference,
+                Some(Fault::UserIdentityExampleOf4) => *kind == Kind::UserIdentity,
                 _ => false,
             };
             let length = if kind.is_four_bytes() != turned { 4 } else { 0 };

@@ -1,5 +1,7 @@
 //! SAR.
 
+use std::borrow::Cow;
+
 use super::lookup::{by_public, is_private_known};
 use super::sets::{closed, first_of_set, is_barred, members, shared, Records};
 use crate::kinds::Kind;
@@ -370,7 +372,8 @@ impl<'a> Assignment<'_, 'a> {
                 Some(Fault::UserDataForEachOfSet | Fault::UserDataOfSetJoined) if record.set() != 0 => of_set(),
                 _ => vec![record],
             };
-            verdict.user_data = shown.into_iter().filter_map(|record| self.user_data(record)).collect();
+            let data = shown.into_iter().filter_map(|record| self.user_data(record));
+            verdict.user_data = data.map(Cow::Borrowed).collect();
         }
         verdict
     }

@@ -8,15 +8,19 @@ mod chosen;
 mod location;
 mod lookup;
 mod sets;
+mod supported;
 
 use crate::kinds::Command;
 use crate::read::Request;
 use crate::slip::Slip;
+use crate::stated::Stated;
 use crate::table::{Record, Table};
 use crate::vectors::Vectors;
 use crate::verdict::{Decision, Stored, Verdict, Why};
 
 pub use chosen::MOST_SENT;
+pub use lookup::by_public;
+pub use supported::asks_too_much;
 
 /// What a decision is made over.
 #[derive(Clone, Copy)]
@@ -26,7 +30,14 @@ pub struct Files<'a> {
     pub vectors: Vectors<'a>,
 }
 
-pub fn decide<'a>(request: &Request<'a>, files: Files<'a>, slip: Slip) -> Verdict<'a> {
+pub fn decide<'a>(request: &Request<'a>, files: Files<'a>, stated: Stated, slip: Slip) -> Verdict<'a> {
+    match asks_too_much(&request.features, request.command, stated, slip) {
+        true => supported::unsupported(request, || decided(request, files, slip), slip),
+        false => decided(request, files, slip),
+    }
+}
+
+fn decided<'a>(request: &Request<'a>, files: Files<'a>, slip: Slip) -> Verdict<'a> {
     let table = files.table;
     let (asked_type, mut verdict) = match request.command {
         Command::UserAuthorization => {
@@ -36,7 +47,10 @@ pub fn decide<'a>(request: &Request<'a>, files: Files<'a>, slip: Slip) -> Verdic
         Command::ServerAssignment => {
             (request.assignment_type, assignment::server_assignment(request, table, files.profile, slip))
         }
-        Command::MultimediaAuth => (0, authentication::multimedia_auth(request, table, files.vectors, slip)),
+        // A request of Cx has no other command.
+        Command::MultimediaAuth | Command::UserData => {
+            (0, authentication::multimedia_auth(request, table, files.vectors, slip))
+        }
     };
     astray::verdict(&mut verdict, request, table, slip);
     let asked = asked_records(request, table);

@@ -17,10 +17,22 @@ pub enum Stream {
     Moves,
     /// The take-over of a new table into a working area.
     Takes,
+    /// The export of a table as a list, and the import of one.
+    Lists,
+    /// The decision of Sh, over every kind of request.
+    Voicemail,
 }
 
-pub const STREAMS: [Stream; 6] =
-    [Stream::Tables, Stream::Vectors, Stream::Calls, Stream::Reports, Stream::Moves, Stream::Takes];
+pub const STREAMS: [Stream; 8] = [
+    Stream::Tables,
+    Stream::Vectors,
+    Stream::Calls,
+    Stream::Reports,
+    Stream::Moves,
+    Stream::Takes,
+    Stream::Lists,
+    Stream::Voicemail,
+];
 
 impl Stream {
     pub fn by_name(name: &str) -> Option<Stream> {
@@ -35,6 +47,8 @@ impl Stream {
             Stream::Reports => "reports",
             Stream::Moves => "moves",
             Stream::Takes => "takes",
+            Stream::Lists => "lists",
+            Stream::Voicemail => "voicemail",
         }
     }
 }

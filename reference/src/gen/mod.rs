@@ -5,6 +5,8 @@ mod asks;
 mod calls;
 mod checks;
 pub mod damage;
+mod features;
+pub mod lists;
 mod made;
 pub mod model;
 pub mod moves;
@@ -20,7 +22,7 @@ pub mod takes;
 pub mod twists;
 pub mod vectors;
 
-pub use calls::{MIXED, OF_PEERS, OF_SETS};
+pub use calls::{MIXED, OF_FEATURES, OF_PEERS, OF_SETS};
 pub use checks::CUTS;
 pub use made::{Made, Stream, STREAMS};
 pub use runs::{run, Step};
@@ -38,5 +40,7 @@ pub fn make(stream: Stream, seed: u64, number: u64) -> Made {
         Stream::Reports => reports::case(&mut rng),
         Stream::Moves => moves::case(&mut rng),
         Stream::Takes => takes::case(&mut rng),
+        Stream::Lists => lists::case(&mut rng),
+        Stream::Voicemail => calls::of_sh(&mut rng),
     }
 }

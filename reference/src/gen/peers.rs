@@ -1,11 +1,13 @@
-//! What is stated of a peer.
+//! What is stated of a peer and of the server.
 
+use super::features;
 use crate::rng::Rng;
 use crate::stated::{Stated, RFC_3588, RFC_6733};
 
-/// One of the two editions.
+/// One of the two editions, and any set of features.
 pub fn known(rng: &mut Rng) -> Stated {
-    Stated { peer: if rng.coin() { RFC_3588 } else { RFC_6733 } }
+    let peer = if rng.coin() { RFC_3588 } else { RFC_6733 };
+    Stated { peer, features: features::set(rng) }
 }
 
 /// Mostly one of the two; rarely another number.
@@ -27,5 +29,5 @@ pub fn unknown(rng: &mut Rng) -> Stated {
         4 => *rng.pick(&[u32::MAX, 10_415, 16_777_216, either.swap_bytes(), either << 16]),
         _ => RFC_6733 + 1 + (rng.word() >> 1),
     };
-    Stated { peer }
+    Stated { peer, features: features::set(rng) }
 }

@@ -1,6 +1,6 @@
 //! A request as its maker thinks of it, and its bytes.
 
-use crate::kinds::{Kind, APPLICATION, AUTH_APPLICATION_ID, VENDOR, VENDOR_ID};
+use crate::kinds::{Dialect, Kind, AUTH_APPLICATION_ID, VENDOR, VENDOR_ID};
 use crate::message::{padded, M, V};
 use crate::rng::Rng;
 
@@ -79,6 +79,8 @@ impl Piece {
 
 #[derive(Clone, Debug)]
 pub struct RequestModel {
+    /// Of which interface it is, though its header may say otherwise.
+    pub dialect: Dialect,
     pub version: u8,
     pub flags: u8,
     pub command: u32,
@@ -124,6 +126,28 @@ impl RequestModel {
     }
 }
 
+/// AVPs one behind the other, as a group holds them.
+pub fn put_together(pieces: &[Piece]) -> Vec<u8> {
+    let mut data = Vec::new();
+    for piece in pieces {
+        piece.encode(&mut data);
+    }
+    data
+}
+
+/// What a group holds, rightly, that has one member of vendor 10415: M and P are free, and its padding is whole or cut.
+pub fn single(rng: &mut Rng, code: u32, data: Vec<u8>) -> Vec<u8> {
+    let flags = if rng.once_in(4) { *rng.pick(&[0, 0x20, 0x60]) } else { M };
+    let member = Piece::new(rng, Some(VENDOR), code, flags, data);
+    let padding = member.padded() - member.length();
+    let mut data = Vec::new();
+    member.encode(&mut data);
+    if padding > 0 && rng.coin() {
+        data.truncate(data.len() - rng.between(1, padding));
+    }
+    data
+}
+
 /// A member of 260, without V.
 pub fn member(code: u32, flags: u8, number: u32) -> Vec<u8> {
     let mut bytes = code.to_be_bytes().to_vec();
@@ -133,15 +157,15 @@ pub fn member(code: u32, flags: u8, number: u32) -> Vec<u8> {
 }
 
 /// What 260 holds, rightly: mostly one Vendor-Id and the application after it.
-pub fn application(rng: &mut Rng) -> Vec<u8> {
+pub fn application(rng: &mut Rng, dialect: Dialect) -> Vec<u8> {
     let vendors = if rng.once_in(10) { rng.between(1, 3) } else { 1 };
-    application_of(rng, vendors)
+    application_of(rng, dialect, vendors)
 }
 
 /// With so many Vendor-Ids.
-pub fn application_of(rng: &mut Rng, vendors: usize) -> Vec<u8> {
+pub fn application_of(rng: &mut Rng, dialect: Dialect, vendors: usize) -> Vec<u8> {
     let mut members = vec![(VENDOR_ID, VENDOR); vendors];
-    members.push((AUTH_APPLICATION_ID, APPLICATION));
+    members.push((AUTH_APPLICATION_ID, dialect.application()));
     if rng.once_in(3) {
         rng.shuffle(&mut members);
     }

@@ -3,6 +3,7 @@
 
 use super::areas;
 use super::asks;
+use super::features;
 use super::made::Made;
 use super::model::TableModel;
 use super::peers;
@@ -78,6 +79,10 @@ impl Files {
         let buffer = if rng.once_in(30) { LEAST_BUFFER - 1 } else { LEAST_BUFFER };
         let files = (self.area.clone(), self.profile.clone(), self.vectors.clone());
         let stated = peers::any(rng);
+        if rng.once_in(10) {
+            notes.push("628s");
+            features::ask(rng, &mut request, stated.features);
+        }
         let case = Case::decide(rng.byte(), request.encode(), files.0, files.1, files.2, buffer, stated);
         Made { case, notes, damaged: None }
     }

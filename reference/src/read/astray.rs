@@ -1,20 +1,22 @@
 //! Deliberate faults of the order in which a request is read.
 
+use super::kind::kind_of;
 use super::missing::nothing_missing;
 use super::peers::several_vendors;
-use super::walk::{kind_of, walk};
+use super::walk::walk;
 use crate::kinds::{Command, Kind};
 use crate::message::{Avp, Message};
 use crate::slip::{Fault, Slip};
-use crate::stated::Stated;
+use crate::stated::{Stated, RFC_3588};
 use crate::verdict::Finding;
 
 /// What a faulty program asks before the walk: that there is no other fault, that nothing is missing, or the rule itself.
 pub fn asked_before<'a>(message: Message<'a>, command: Command, stated: Stated, slip: Slip) -> Result<(), Finding<'a>> {
+    let older = Stated { peer: RFC_3588, ..stated };
     match slip.0 {
-        Some(Fault::SeveralVendorsAfterWalk) => walk(message.avps(), command, Stated::OLDER, slip).map(drop),
+        Some(Fault::SeveralVendorsAfterWalk) => walk(message.avps(), command, older, slip).map(drop),
         Some(Fault::SeveralVendorsAfterMissing) => {
-            let found = walk(message.avps(), command, Stated::OLDER, slip)?;
+            let found = walk(message.avps(), command, older, slip)?;
             let there: Vec<Kind> = found.iter().map(|(kind, _)| *kind).collect();
             nothing_missing(&there, command, slip)
         }

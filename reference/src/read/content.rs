@@ -1,7 +1,9 @@
 //! Rules (g) and (h): what an AVP of a named kind holds.
 
-use super::groups::{members_have_sound_lengths, scheme, vendor_ids};
+use super::features::features;
+use super::groups::{members_have_sound_lengths, vendor_ids};
 use super::peers::several_vendors;
+use super::single::{identity, scheme};
 use crate::block::word_at;
 use crate::kinds::{Command, Kind};
 use crate::message::{header_alone, Avp};
@@ -42,16 +44,18 @@ pub fn judge_content<'a>(
     if kind == Kind::VendorSpecificApplicationId {
         several_vendors(avp, command, stated, slip)?;
     }
-    if has_good_content(avp, kind, command, slip) {
+    if has_good_content(avp, kind, command, stated, slip) {
         return Ok(());
     }
     // Also for a fault in a group the place is that of the AVP at the top.
     let (place, why) = (avp.at, Why::Rule('h', kind.name()));
     match (slip.0, kind, avp.members().first(slip)) {
-        (Some(Fault::FaultyMemberAlone), Kind::SipAuthDataItem, Ok((member, _))) => {
+        (Some(Fault::FaultyMemberAlone), Kind::SipAuthDataItem, Ok((member, _)))
+        | (Some(Fault::FaultyFeatureMemberAlone), Kind::SupportedFeatures, Ok((member, _))) => {
             Err(Finding { result: 5004, failed: Failed::Whole(member), place, why })
         }
         (Some(Fault::ItemLengthFaultTold), Kind::SipAuthDataItem, _)
+        | (Some(Fault::FeatureLengthFaultTold), Kind::SupportedFeatures, _)
             if !members_have_sound_lengths(avp.members(), slip) =>
         {
             Err(Finding { result: 5014, failed: Failed::Header(header_alone(avp.header(), slip)), place, why })
@@ -78,7 +82,7 @@ fn four_bytes_fault<'a>(avp: Avp<'a>, kind: Kind, stated: Stated, slip: Slip) ->
 }
 
 /// Rule (h).
-fn has_good_content(avp: Avp, kind: Kind, command: Command, slip: Slip) -> bool {
+fn has_good_content(avp: Avp, kind: Kind, command: Command, stated: Stated, slip: Slip) -> bool {
     let value = || number(avp.data, slip);
     match kind {
         Kind::AuthSessionState => value() == 1 || slip.is(Fault::SessionStateNotAsked),
@@ -92,13 +96,19 @@ fn has_good_content(avp: Avp, kind: Kind, command: Command, slip: Slip) -> bool 
             Some(Fault::ServerNameFreeInAuthentication) if command == Command::MultimediaAuth => true,
             _ => (1..=LONGEST_SERVER_NAME).contains(&avp.data.len()),
         },
-        Kind::VendorSpecificApplicationId => vendor_ids(avp.members(), slip).is_some(),
+        Kind::VendorSpecificApplicationId => vendor_ids(avp.members(), command.dialect(), slip).is_some(),
         Kind::SipNumberAuthItems => match slip.0 {
             Some(Fault::ZeroAskedIsContent) => value() != 0,
             Some(Fault::ManyAskedIsContent) => value() <= 16,
             _ => true,
         },
         Kind::SipAuthDataItem => scheme(avp.members(), slip).is_some(),
+        Kind::UserIdentity => identity(avp.members(), slip).is_some(),
+        Kind::DataReference => [11, 12].contains(&value()) || !slip.is(Fault::ReferenceIsContent),
+        Kind::SupportedFeatures => match features(avp.members(), slip) {
+            Some(asked) => asked.bits & !stated.features == 0 || !slip.is(Fault::FeatureBitsAreContent),
+            None => false,
+        },
         _ => true,
     }
 }

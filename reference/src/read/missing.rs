@@ -22,9 +22,23 @@ fn needed_in_order(command: Command, slip: Slip) -> Vec<Kind> {
         (Some(Fault::TypeNeededInAuthorization), Command::UserAuthorization) => kinds.push(Kind::UserAuthorizationType),
         (Some(Fault::VisitedNetworkNotNeeded), _) => kinds.retain(|kind| *kind != Kind::VisitedNetworkIdentifier),
         (_, Command::MultimediaAuth) => astray_in_authentication(&mut kinds, slip),
+        (_, Command::UserData) => astray_in_sh(&mut kinds, slip),
         _ => {}
     }
     kinds
+}
+
+/// Another order of the last two, one that is not needed, or one more.
+fn astray_in_sh(kinds: &mut Vec<Kind>, slip: Slip) {
+    let own = kinds.len() - 2;
+    match slip.0 {
+        Some(Fault::ReferenceMissedFirst) => kinds.swap(own, own + 1),
+        Some(Fault::ShOwnMissedFirst) => kinds.rotate_left(own),
+        Some(Fault::UserIdentityNotNeeded) => kinds.retain(|kind| *kind != Kind::UserIdentity),
+        Some(Fault::ReferenceNotNeeded) => kinds.retain(|kind| *kind != Kind::DataReference),
+        Some(Fault::UserNameNeededInSh) => kinds.push(Kind::UserName),
+        _ => {}
+    }
 }
 
 /// Another order of the last five, or one that is not needed.

@@ -1,7 +1,7 @@
 //! What the peer's edition decides in reading: under RFC 6733, 260 holds one Vendor-Id alone.
 
 use super::groups::vendor_ids;
-use crate::kinds::{Command, AUTH_APPLICATION_ID, VENDOR_ID};
+use crate::kinds::{Command, Dialect, AUTH_APPLICATION_ID, VENDOR_ID};
 use crate::message::{header_alone, Avp};
 use crate::slip::{Fault, Slip};
 use crate::stated::Stated;
@@ -12,7 +12,7 @@ pub const SEVERAL: &str = "several Vendor-Ids";
 
 /// B5009 with the whole 260, if it has more than one Vendor-Id and is otherwise as document 01 wants it.
 pub fn several_vendors<'a>(avp: Avp<'a>, command: Command, stated: Stated, slip: Slip) -> Result<(), Finding<'a>> {
-    if !applies(command, stated, slip) || !is_several(avp, slip) {
+    if !applies(command, stated, slip) || !is_several(avp, command.dialect(), slip) {
         return Ok(());
     }
     let result = if slip.is(Fault::SeveralVendorsAreContent) { 5004 } else { 5009 };
@@ -32,28 +32,24 @@ fn applies(command: Command, stated: Stated, slip: Slip) -> bool {
         Some(Fault::SeveralVendorsRefusedByOlder) => true,
         Some(Fault::SeveralVendorsTakenInAuthentication) => stated.is_newer() && command != Command::MultimediaAuth,
         Some(Fault::SeveralVendorsTakenInAssignment) => stated.is_newer() && command != Command::ServerAssignment,
+        Some(Fault::SeveralVendorsTakenInSh) => stated.is_newer() && command != Command::UserData,
         _ => stated.is_newer(),
     }
 }
 
-fn is_several(avp: Avp, slip: Slip) -> bool {
-    let (count, all) = (vendor_ids(avp.members(), slip), vendors_of(avp));
+fn is_several(avp: Avp, dialect: Dialect, slip: Slip) -> bool {
+    let counted = |slip: Slip| vendor_ids(avp.members(), dialect, slip);
+    let (count, all) = (counted(slip), vendors_of(avp));
     let has_two = all.len() > 1;
     let members = avp.members().sound(Slip::NONE);
     let of = |code: u32| members.iter().filter(|member| member.vendor.is_none() && member.code == code).count();
     match slip.0 {
         Some(Fault::VendorsCountedAlone) => has_two,
-        Some(Fault::OtherVendorsCounted) => vendor_ids(avp.members(), Slip::of(Fault::OtherVendorTaken)) > Some(1),
-        Some(Fault::VendorsWithoutApplicationCounted) => {
-            vendor_ids(avp.members(), Slip::of(Fault::NoApplicationIdTaken)) > Some(1)
-        }
-        Some(Fault::VendorsBesideOthersCounted) => {
-            vendor_ids(avp.members(), Slip::of(Fault::OtherMemberTaken)) > Some(1)
-        }
+        Some(Fault::OtherVendorsCounted) => counted(Slip::of(Fault::OtherVendorTaken)) > Some(1),
+        Some(Fault::VendorsWithoutApplicationCounted) => counted(Slip::of(Fault::NoApplicationIdTaken)) > Some(1),
+        Some(Fault::VendorsBesideOthersCounted) => counted(Slip::of(Fault::OtherMemberTaken)) > Some(1),
         Some(Fault::SecondApplicationIsTooOften) => {
-            count > Some(1)
-                || of(AUTH_APPLICATION_ID) > 1
-                    && vendor_ids(avp.members(), Slip::of(Fault::TwoApplicationsTaken)).is_some()
+            count > Some(1) || of(AUTH_APPLICATION_ID) > 1 && counted(Slip::of(Fault::TwoApplicationsTaken)).is_some()
         }
         Some(Fault::TwoVendorsAlone) => count == Some(2),
         Some(Fault::ThreeVendorsNeeded) => count > Some(2),

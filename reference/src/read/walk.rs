@@ -1,8 +1,9 @@
 //! The walk over the AVPs: rules (a) to (f) for each in turn; what it holds is judged in a file of its own.
 
 use super::content::judge_content;
+use super::kind::kind_of;
 use super::peers::{several_vendors, SEVERAL};
-use crate::kinds::{Command, Kind, KINDS, VENDOR};
+use crate::kinds::{Command, Kind};
 use crate::message::{Avp, LengthFault, Received};
 use crate::slip::{Fault, Slip};
 use crate::stated::Stated;
@@ -115,37 +116,17 @@ fn judge<'a>(
     Ok(Some(kind))
 }
 
-pub fn kind_of(avp: Avp, command: Command, slip: Slip) -> Option<Kind> {
-    let exactly = Kind::of(avp.vendor, avp.code);
-    match (slip.0, exactly) {
-        (Some(Fault::UnknownByCodeAlone), _) => KINDS.iter().copied().find(|kind| kind.code() == avp.code),
-        (Some(Fault::VendorZeroIsNone), _) => Kind::of(avp.vendor.filter(|vendor| *vendor != 0), avp.code),
-        (Some(Fault::CodeIn16Bits), _) => Kind::of(avp.vendor, avp.code & 0xFFFF),
-        (Some(Fault::AuthKindsUnknownElsewhere), Some(Kind::SipNumberAuthItems | Kind::SipAuthDataItem)) => {
-            exactly.filter(|_| command == Command::MultimediaAuth)
-        }
-        (Some(Fault::ItemMembersKnown), None) => {
-            let member = avp.vendor == Some(VENDOR) && matches!(avp.code, 608..=611 | 613 | 625 | 626);
-            member.then(|| unnamed(command))
-        }
-        (Some(Fault::FeaturesKnown), None) => (avp.vendor == Some(VENDOR) && avp.code == 628).then(|| unnamed(command)),
-        _ => exactly,
-    }
-}
-
-/// A kind that the command does not name: what a faulty program takes for known is skipped as this is.
-fn unnamed(command: Command) -> Kind {
-    match command {
-        Command::MultimediaAuth => Kind::UserAuthorizationType,
-        _ => Kind::SipAuthDataItem,
-    }
-}
-
 /// Whether the command names it.
 fn is_named(kind: Kind, command: Command, slip: Slip) -> bool {
     let assigned = matches!(kind, Kind::ServerAssignmentType | Kind::UserDataAlreadyAvailable);
     let authorized = matches!(kind, Kind::VisitedNetworkIdentifier | Kind::UserAuthorizationType);
     let in_authentication = command == Command::MultimediaAuth;
+    match (slip.0, kind) {
+        (Some(Fault::FeaturesUnnamed), Kind::SupportedFeatures) => return false,
+        (Some(Fault::FeaturesNamedInSh), Kind::SupportedFeatures) => return true,
+        (Some(Fault::UserNameUnnamedInSh), Kind::UserName) if command == Command::UserData => return false,
+        _ => {}
+    }
     kind.is_named_in(command)
         || (slip.is(Fault::AssignmentNamedInAuthentication) && in_authentication && assigned)
         || (slip.is(Fault::AuthorizationNamedInAuthentication) && in_authentication && authorized)
@@ -187,6 +168,10 @@ fn may_repeat(kind: Kind, command: Command, slip: Slip) -> bool {
         (Some(Fault::ServerNameRepeatsInAuthentication), Kind::ServerName) => command == Command::MultimediaAuth,
         (Some(Fault::ItemRepeats), Kind::SipAuthDataItem) => true,
         (Some(Fault::NumberRepeats), Kind::SipNumberAuthItems) => true,
+        (Some(Fault::FeaturesOnce), Kind::SupportedFeatures) => false,
+        (Some(Fault::ReferenceOnce), Kind::DataReference) => false,
+        (Some(Fault::UserIdentityRepeats), Kind::UserIdentity) => true,
+        (Some(Fault::UserNameRepeatsInSh), Kind::UserName) => command == Command::UserData,
         _ => kind.may_repeat_in(command),
     }
 }

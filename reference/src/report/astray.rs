@@ -8,7 +8,7 @@ use crate::message::Message;
 use crate::refuse::LEAST_BUFFER;
 use crate::serve::{call, Done};
 use crate::slip::{Fault, Slip};
-use crate::stated::Stated;
+use crate::stated::{Stated, RFC_3588, RFC_6733};
 use crate::verdict::Why;
 use crate::{table, vectors};
 
@@ -76,12 +76,14 @@ pub fn refused(lent: &Lent, slip: Slip) -> Option<Done> {
     Some(Done { word, result: None, rewritten: 0, why: Why::Refused(number) })
 }
 
-/// What a faulty report tells its calls of the peer.
+/// What a faulty report tells its calls.
 pub fn stated(stated: Stated, slip: Slip) -> Stated {
     match slip.0 {
-        Some(Fault::PeerNotAskedInReports) if !stated.has_known_peer() => Stated::OLDER,
-        Some(Fault::ReportOfOlderPeers) if stated.is_newer() => Stated::OLDER,
-        Some(Fault::ReportOfNewerPeers) if stated.has_known_peer() => Stated::NEWER,
+        Some(Fault::PeerNotAskedInReports) if !stated.has_known_peer() => Stated { peer: RFC_3588, ..stated },
+        Some(Fault::ReportOfOlderPeers) if stated.is_newer() => Stated { peer: RFC_3588, ..stated },
+        Some(Fault::ReportOfNewerPeers) if stated.has_known_peer() => Stated { peer: RFC_6733, ..stated },
+        Some(Fault::ReportOfNoFeatures) => Stated { features: 0, ..stated },
+        Some(Fault::ReportOfAllFeatures) => Stated { features: u32::MAX, ..stated },
         _ => stated,
     }
 }

@@ -150,6 +150,7 @@ fn column(result: Code, slip: Slip) -> Option<usize> {
     match (slip.0, result) {
         (Some(Fault::ResultsShareColumns), Experimental(code)) => place(Base(code)).or_else(|| place(result)),
         (Some(Fault::ExperimentalFirst), _) => place(result).map(|column| (column + 12) % COLUMNS.len()),
+        (Some(Fault::UnsupportedIsVersionFault), Experimental(5011)) => place(Base(5011)),
         (Some(Fault::SchemeColumnLeftOut), Experimental(5007)) => place(Experimental(5006)),
         _ => place(result),
     }

@@ -1,11 +1,15 @@
 //! Deliberate faults of a whole call: what it looks at and alters besides.
 
 use crate::block::{mend, put_word, BLOCK, CHECK_WORD};
+use crate::decide::asks_too_much;
 use crate::kinds::Command;
 use crate::message::Message;
+use crate::read::features_of;
 use crate::slip::{Fault, Slip};
+use crate::stated::Stated;
 use crate::table::{self, header, record, rewrite, Rewriting, Table};
 use crate::vectors::{vector, Vectors};
+use crate::verdict::{Finding, Why};
 
 /// The table that a faulty program decides over, if it is another: with the records past the count, as far as they are sound.
 pub fn seen(area: &[u8], profile_length: usize, slip: Slip) -> Option<Vec<u8>> {
@@ -60,6 +64,19 @@ pub fn member(table: &mut [u8], first: usize, block: usize, before: &[u8], slip:
         }
         _ => {}
     }
+}
+
+/// Whether a faulty program answers X5011 where reading finds a fault.
+pub fn is_unsupported(message: Message, finding: &Finding, stated: Stated, slip: Slip) -> bool {
+    let end = match (slip.0, &finding.why) {
+        (Some(Fault::UnsupportedBeforeMissing | Fault::UnsupportedByPosition), Why::Missing(_)) => message.0.len(),
+        (Some(Fault::UnsupportedBeforeUnknown), Why::Rule('d', _)) => message.0.len(),
+        (Some(Fault::UnsupportedByPosition), Why::Rule(..)) => finding.place,
+        _ => return false,
+    };
+    let command = Command::of(message.command()).unwrap_or(Command::LocationInfo);
+    let before: Vec<_> = features_of(message, slip).into_iter().filter(|(avp, _)| avp.at < end).collect();
+    asks_too_much(&before, command, stated, slip)
 }
 
 /// What a faulty program marks for a MAR that has a fault: the first unused vector.

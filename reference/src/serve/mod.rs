@@ -5,6 +5,7 @@ mod astray;
 use crate::answer::answer;
 use crate::block::{mend, BLOCK};
 use crate::decide::{decide, Files};
+use crate::kinds::Dialect;
 use crate::message::Message;
 use crate::moves::Refusal;
 use crate::place;
@@ -29,11 +30,11 @@ pub fn check_word(number: u64, found: Result<u32, u32>) -> u64 {
     }
 }
 
-/// The return word of a move or a take-over: 0 with the record count, or the refusal.
+/// The return word of a move, a take-over, an export or an import: 0 with what it answers, or the refusal.
 pub fn move_word(found: Result<u32, Refusal>) -> u64 {
     match found {
-        Ok(count) => u64::from(count),
-        Err((number, block)) => u64::from(number) << 48 | u64::from(block),
+        Ok(value) => u64::from(value),
+        Err((number, value)) => u64::from(number) << 48 | u64::from(value),
     }
 }
 
@@ -71,30 +72,32 @@ pub fn call(
     stated: Stated,
     slip: Slip,
 ) -> Done {
-    let request = if slip.is(Fault::RequestLengthIn16Bits) { &request[..request.len() & 0xFFFF] } else { request };
-    let stated = stated.taken(slip);
-    if let Some((number, value)) = refusal(&Lent { request, table, profile, vectors, buffer, stated }, slip) {
+    let (request, stated) = (taken(request, slip), stated.taken(slip));
+    let lent = Lent { dialect: Dialect::Cx, request, table, profile, vectors, buffer, stated };
+    if let Some((number, value)) = refusal(&lent, slip) {
+        let word = refused(request, Dialect::Cx, (number, value), stated, slip);
         match slip.0 {
-            Some(Fault::RefusalTouchesBuffer) => buffer.iter_mut().take(1).for_each(|byte| *byte = 1),
+            Some(Fault::RefusalTouchesBuffer) => touch(buffer),
             Some(Fault::RefusalTouchesVectors) => vectors.iter_mut().take(1).for_each(|byte| *byte = 0),
             Some(Fault::UnsoundAreaCleared) if number == 5 => {
                 table.iter_mut().skip(value as usize * BLOCK).take(BLOCK).for_each(|byte| *byte = 0);
             }
             _ => {}
         }
-        let place = place::of_refusal(request, number, value, stated, slip);
-        let word = u64::from(number) << 48 | place | u64::from(value);
         return Done { word, result: None, rewritten: 0, why: Why::Refused(number) };
     }
     let message = Message(request);
     let seen = astray::seen(table, profile.len(), slip);
     let files = Files { table: Table(seen.as_deref().unwrap_or(table)), profile, vectors: Vectors(vectors) };
     let verdict = match read(message, stated, slip) {
-        Ok(request) => decide(&request, files, slip),
+        Ok(request) => decide(&request, files, stated, slip),
+        Err(finding) if astray::is_unsupported(message, &finding, stated, slip) => {
+            Verdict { why: finding.why, ..Verdict::of(Code::Experimental(5011)) }
+        }
         Err(finding) => Verdict { marked: astray::marks(message, files.vectors, slip), ..Verdict::of_finding(finding) },
     };
-    let answer = answer(message, files.table.header(), &verdict, stated, slip);
-    let place = place::of_answer(message, &verdict, slip);
+    let answer = answer(message, Dialect::Cx, files.table.header(), &verdict, stated, slip);
+    let place = place::of_answer(message, Dialect::Cx, &verdict, slip);
     let Verdict { result, rewritings, marked, why, .. } = verdict;
 
     for block in marked {
@@ -120,8 +123,28 @@ pub fn call(
     Done { word: place | answer.len() as u64, result: Some(result), rewritten: rewritings.len(), why }
 }
 
+/// The request, or as much of it as a faulty program takes.
+pub fn taken(request: &[u8], slip: Slip) -> &[u8] {
+    match slip.0 {
+        Some(Fault::RequestLengthIn16Bits) => &request[..request.len() & 0xFFFF],
+        _ => request,
+    }
+}
+
+/// The word of a refused call.
+pub fn refused(request: &[u8], dialect: Dialect, refusal: Refusal, stated: Stated, slip: Slip) -> u64 {
+    let (number, value) = refusal;
+    let place = place::of_refusal(request, dialect, refusal, stated, slip);
+    u64::from(number) << 48 | place | u64::from(value)
+}
+
+/// What a faulty program does to the buffer where it refuses.
+pub fn touch(buffer: &mut [u8]) {
+    buffer.iter_mut().take(1).for_each(|byte| *byte = 1);
+}
+
 /// Only a faulty answer may have no room.
-fn put(buffer: &mut [u8], answer: &[u8], slip: Slip) {
+pub fn put(buffer: &mut [u8], answer: &[u8], slip: Slip) {
     let end = answer.len().min(buffer.len());
     buffer[..end].copy_from_slice(&answer[..end]);
     if slip.is(Fault::RestOfBufferCleared) {

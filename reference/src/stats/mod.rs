@@ -1,6 +1,8 @@
 //! Histograms of a stream of cases: what was done to get them, and what came of them.
 
 mod authentication;
+mod features;
+mod lists;
 mod moves;
 mod peers;
 mod places;
@@ -9,6 +11,7 @@ mod required;
 mod sets;
 mod sizes;
 mod takes;
+mod voicemail;
 
 use std::collections::{BTreeMap, BTreeSet};
 use std::ops::Range;
@@ -16,7 +19,9 @@ use std::ops::Range;
 use crate::block::{word_at, BLOCK};
 use crate::cases::{Case, Outcome, Slice};
 use crate::gen::{self, Made, Stream, FAR};
-use crate::kinds::{Command, Kind, EXPERIMENTAL_RESULT, FAILED_AVP, RESULT_CODE, SERVER_CAPABILITIES, USER_DATA};
+use crate::kinds::{
+    Command, Dialect, Kind, EXPERIMENTAL_RESULT, FAILED_AVP, RESULT_CODE, SERVER_CAPABILITIES, SH_USER_DATA, USER_DATA,
+};
 use crate::message::{Avp, Message};
 use crate::read::read_header;
 use crate::slip::Slip;
@@ -42,6 +47,7 @@ impl Histogram {
             (Stream::Reports, _) => self.count_report(made, outcome),
             (Stream::Moves, _) => self.count_move(made, outcome),
             (Stream::Takes, _) => self.count_take(made, outcome),
+            (Stream::Lists, _) => self.count_list(made, outcome),
             _ => self.count_call(made, outcome, why),
         }
     }
@@ -108,12 +114,22 @@ impl Histogram {
         takes::rows(&made.case, outcome).into_iter().for_each(|row| self.add(row));
     }
 
+    fn count_list(&mut self, made: &Made, outcome: &Outcome) {
+        made.notes.iter().for_each(|note| self.add(format!("made by: {note}")));
+        lists::rows(&made.case, outcome).into_iter().for_each(|row| self.add(row));
+    }
+
     fn count_call(&mut self, made: &Made, outcome: &Outcome, why: &Why) {
         for note in &made.notes {
             self.add(format!("made by: {note}"));
         }
         let row = match why {
-            Why::Checked(_) | Why::CheckedVectors(_) | Why::Reported | Why::Moved(_) | Why::TakenOver(_) => return,
+            Why::Checked(_)
+            | Why::CheckedVectors(_)
+            | Why::Reported
+            | Why::Moved(_)
+            | Why::TakenOver(_)
+            | Why::Listed(_) => return,
             Why::Refused(6) => format!("refused 6 to {}", asker(&made.case.held(Slice::Request))),
             Why::Refused(5) if disagrees(&made.case) => "refused 5, a set disagrees".to_string(),
             Why::Refused(5) if made.notes.contains(&"a cut take-over") => "refused 5, a cut take-over".to_string(),
@@ -122,6 +138,7 @@ impl Histogram {
             Why::Header(code) => format!("header: B{code}"),
             Why::Rule(letter, what) => format!("rule ({letter}): {what}"),
             Why::Missing(kind) => format!("missing: {}", kind.name()),
+            Why::Unsupported(command) => format!("unsupported in {}", command.code()),
             Why::Decided(decision) => {
                 let table = made.case.held(Slice::Table);
                 self.add(format!("decided over {} records", size(Table(&table).records().count())));
@@ -146,6 +163,11 @@ impl Histogram {
             _ => {}
         }
         if outcome.parts().0 == 0 {
+            let rows = match made.case.entry.dialect() {
+                Dialect::Cx => features::rows(&made.case, outcome.parts().1, why),
+                Dialect::Sh => voicemail::rows(&made.case, why),
+            };
+            rows.into_iter().for_each(|row| self.add(row));
             self.count_answer(&made.case, outcome, why);
         }
     }
@@ -159,6 +181,7 @@ impl Histogram {
         match decision.command {
             Some(Command::UserAuthorization) => format!("UAR: type {}, {state}: {result}", decision.asked_type),
             Some(Command::LocationInfo) => format!("LIR: {state}: {result}"),
+            Some(Command::UserData) => format!("UDR: {state}: {result}"),
             Some(Command::MultimediaAuth) => {
                 authentication::rows(decision).into_iter().for_each(|row| self.add(row));
                 format!("MAR: {state}: {result}")
@@ -214,9 +237,11 @@ impl Histogram {
                     self.add("answer: User-Data from past 65,536".to_string());
                 }
             }
+            SH_USER_DATA => self.add("answer: the document".to_string()),
             1 => self.add("answer: User-Name".to_string()),
             602 => self.add("answer: Server-Name".to_string()),
             612 => self.add("answer: an item".to_string()),
+            628 => self.add("answer: the own list".to_string()),
             FAILED_AVP if avp.data.is_empty() => self.add("answer: Failed-AVP without data".to_string()),
             FAILED_AVP => {
                 self.add("answer: Failed-AVP".to_string());
@@ -263,11 +288,12 @@ fn disagrees(case: &Case) -> bool {
 
 /// What a call that is refused by 6 would be answered as.
 fn asker(request: &[u8]) -> &'static str {
-    match read_header(Message(request), Slip::NONE) {
+    match read_header(Message(request), Dialect::Cx, Slip::NONE) {
         Ok(Command::UserAuthorization) => "a UAR",
         Ok(Command::ServerAssignment) => "a SAR",
         Ok(Command::LocationInfo) => "a LIR",
         Ok(Command::MultimediaAuth) => "a MAR",
+        Ok(Command::UserData) => "a UDR",
         Err(_) => "a header fault",
     }
 }

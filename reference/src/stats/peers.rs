@@ -13,7 +13,7 @@ pub fn row(case: &Case, why: &Why) -> Option<String> {
         Why::Rule('h', SEVERAL) => "B5009",
         Why::Rule('h', what) if *what == Kind::VendorSpecificApplicationId.name() => "B5004",
         Why::Rule(..) => "another fault",
-        Why::Missing(_) | Why::Decided(_) => "goes on",
+        Why::Missing(_) | Why::Unsupported(_) | Why::Decided(_) => "goes on",
         _ => return None,
     };
     let request = case.held(Slice::Request);

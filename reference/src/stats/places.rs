@@ -2,7 +2,7 @@
 
 use crate::cases::{Case, Slice};
 use crate::message::Message;
-use crate::read::read;
+use crate::read::fault_of;
 use crate::slip::Slip;
 use crate::verdict::{Code, Why};
 
@@ -22,17 +22,26 @@ pub fn row(place: u64, case: &Case, why: &Why) -> Option<String> {
 
 fn unplaced(case: &Case, why: &Why) -> Option<&'static str> {
     Some(match why {
-        Why::Checked(_) | Why::CheckedVectors(_) | Why::Reported | Why::Moved(_) | Why::TakenOver(_) => return None,
+        Why::Checked(_)
+        | Why::CheckedVectors(_)
+        | Why::Reported
+        | Why::Moved(_)
+        | Why::TakenOver(_)
+        | Why::Listed(_) => return None,
         // Only with these is there a request to read.
-        Why::Refused(5 | 6) => match read(Message(&case.held(Slice::Request)), case.stated(), Slip::NONE) {
-            Err(finding) if finding.place != 0 => "a refusal, though an AVP is at fault",
-            _ => "a refusal",
-        },
+        Why::Refused(5 | 6) => {
+            let request = case.held(Slice::Request);
+            match fault_of(Message(&request), case.entry.dialect(), case.stated(), Slip::NONE) {
+                Some(finding) if finding.place != 0 => "a refusal, though an AVP is at fault",
+                _ => "a refusal",
+            }
+        }
         Why::Refused(_) => "a refusal",
         Why::Header(_) => "a header fault",
         Why::Rule('b', _) => "(b)",
         Why::Rule(..) => "another rule",
         Why::Missing(_) => "a missing AVP",
+        Why::Unsupported(_) => "X5011",
         Why::Decided(decision) => match decision.result? {
             Code::Base(2001) => "a success",
             Code::Base(5003) => "B5003",
@@ -58,6 +67,7 @@ pub fn wanted() -> Vec<String> {
         "the SAR's B5009",
         "B5012",
         "an X result",
+        "X5011",
     ];
     let placed = ["the first AVP's", "under 256", "256 to 4,095", "4,096 to 16,379", "16,380"].map(String::from);
     let rows = placed.into_iter().chain(unplaced.iter().map(|what| format!("none for {what}")));

@@ -131,7 +131,7 @@ pub fn wanted() -> Vec<(String, u64)> {
     wanted.extend(["refused 15", "refused 15, nearly long enough", "a longer report area"].map(|row| (row.into(), 1)));
     wanted.extend((1..=6).chain([12]).map(|number| (format!("refused {number} in it"), 1)));
     wanted.extend(["from RFC 3588", "from RFC 6733", "from an unknown peer"].map(|row| (row.into(), 1)));
-    let everywhere = "B3007 B3008 B3009 B5001 B5004 B5005 B5009 B5011 B5014";
+    let everywhere = "B3007 B3008 B3009 B5001 B5004 B5005 B5009 B5011 B5014 X5011";
     for (row, results) in [
         "B2001 B5003 X2001 X2002 X5001 X5002 X5003 X5004",
         "B2001 B5012 X2004 X5001 X5002 X5005 X5007",

@@ -1,17 +1,20 @@
 //! The rows that a histogram must have.
 
 use super::authentication;
+use super::features;
+use super::lists;
 use super::moves;
 use super::peers;
 use super::places;
 use super::reports;
 use super::sets;
 use super::takes;
+use super::voicemail;
 use crate::gen::damage::damages;
 use crate::gen::twists::twists;
 use crate::gen::vectors::damage::{DAMAGES, OVER_THE_MOST};
-use crate::gen::{Stream, CUTS, MIXED, OF_PEERS, OF_SETS};
-use crate::kinds::{needed, Command, Kind, COMMANDS, KINDS};
+use crate::gen::{Stream, CUTS, MIXED, OF_FEATURES, OF_PEERS, OF_SETS};
+use crate::kinds::{needed, Command, Dialect, Kind};
 use crate::read::SEVERAL;
 
 /// A row has at least one case in so many, but for chance; where a stream is short, at least one.
@@ -26,6 +29,8 @@ pub fn rows(stream: Stream) -> Vec<(String, u64)> {
         Stream::Reports => reports::wanted().into_iter().map(|(row, times)| (row, times * ONE_IN)).collect(),
         Stream::Moves => moves::wanted().into_iter().map(|(row, times)| (row, times * ONE_IN)).collect(),
         Stream::Takes => takes::wanted().into_iter().map(|(row, times)| (row, times * ONE_IN)).collect(),
+        Stream::Lists => lists::wanted().into_iter().map(|(row, times)| (row, times * ONE_IN)).collect(),
+        Stream::Voicemail => of_voicemail(),
     }
 }
 
@@ -103,8 +108,8 @@ fn of_calls() -> Vec<(String, u64)> {
     wanted.push("refused 5, a cut take-over".to_string());
     wanted.extend(takes::areas().map(|row| format!("decided over {row}")));
     wanted.extend([5011, 3008, 3001, 3007].map(|code| format!("header: B{code}")));
-    rules(&mut wanted);
-    missing(&mut wanted);
+    rules(&mut wanted, Dialect::Cx);
+    missing(&mut wanted, Dialect::Cx);
     results(&mut wanted);
     authorizations_and_locations(&mut wanted);
     assignments(&mut wanted);
@@ -113,11 +118,13 @@ fn of_calls() -> Vec<(String, u64)> {
     wanted.extend(moves::editions().into_iter().map(|row| format!("decided over {row}")));
     wanted.push("request: 16,384 bytes".to_string());
     wanted.push("request: over 65,536 bytes".to_string());
-    let made = twists().map(|twist| twist.name).chain(MIXED).chain(OF_SETS).chain(OF_PEERS);
+    let made =
+        twists(Dialect::Cx).map(|twist| twist.name).chain(MIXED).chain(OF_SETS).chain(OF_PEERS).chain(OF_FEATURES);
     wanted.extend(made.map(|name| format!("made by: {name}")));
     wanted.extend(["UAR", "SAR", "LIR", "MAR"].map(|command| format!("refused 6 to a {command}")));
     let mut rows: Vec<(String, u64)> = wanted.into_iter().map(|row| (row, ONE_IN)).collect();
     rows.push(("refused 6 to a header fault".to_string(), 10 * ONE_IN));
+    rows.extend(features::wanted().into_iter().map(|(row, times)| (row, times * ONE_IN)));
     rows.extend(peers::wanted().into_iter().map(|(row, times)| (row, times * ONE_IN)));
     rows.extend(authentication::wanted().into_iter().map(|(row, times)| (row, times * ONE_IN)));
     rows.extend(sets::of_decisions_wanted().into_iter().map(|(row, times)| (row, times * ONE_IN)));
@@ -133,35 +140,65 @@ fn of_calls() -> Vec<(String, u64)> {
     rows
 }
 
-fn rules(wanted: &mut Vec<String>) {
+fn of_voicemail() -> Vec<(String, u64)> {
+    let mut wanted: Vec<String> = (1..=5).map(|number| format!("refused {number}")).collect();
+    wanted.extend(
+        ["unknown peer: refused 12", "made by: an unknown peer", "made by: several refusals"].map(String::from),
+    );
+    wanted.push(format!("rule (h): {SEVERAL}"));
+    wanted.push("refused 5, a set disagrees".to_string());
+    wanted.push("refused 5, a cut take-over".to_string());
+    wanted.extend(takes::areas().map(|row| format!("decided over {row}")));
+    wanted.extend([5011, 3008, 3001, 3007].map(|code| format!("header: B{code}")));
+    rules(&mut wanted, Dialect::Sh);
+    missing(&mut wanted, Dialect::Sh);
+    wanted.extend(moves::editions().into_iter().map(|row| format!("decided over {row}")));
+    wanted.push("request: 16,384 bytes".to_string());
+    let made = twists(Dialect::Sh).map(|twist| twist.name).chain(OF_PEERS).chain(["a UDR"]);
+    wanted.extend(made.map(|name| format!("made by: {name}")));
+    let mut rows: Vec<(String, u64)> = wanted.into_iter().map(|row| (row, ONE_IN)).collect();
+    rows.push(("request: over 65,536 bytes".to_string(), 2 * ONE_IN));
+    rows.extend(peers::wanted().into_iter().map(|(row, times)| (row, times * ONE_IN)));
+    rows.extend(voicemail::wanted().into_iter().map(|(row, times)| (row, times * ONE_IN)));
+    for size in ["13 to 255", "256 to 4,095", "4,096"] {
+        rows.push((format!("decided over {size} records"), 5 * ONE_IN));
+    }
+    rows
+}
+
+fn rules(wanted: &mut Vec<String>, dialect: Dialect) {
     for what in ["with V", "without V", "header cut off"] {
         wanted.push(format!("rule (a): {what}"));
     }
     for rule in ['b', 'c', 'd'] {
         wanted.push(format!("rule ({rule})"));
     }
-    for kind in KINDS {
-        let once_somewhere = !kind.may_repeat_in(Command::UserAuthorization);
-        if once_somewhere {
+    for kind in dialect.kinds() {
+        let once_in = |command: &Command| kind.is_named_in(*command) && !kind.may_repeat_in(*command);
+        if dialect.commands().iter().any(once_in) {
             wanted.push(format!("rule (f): {}", kind.name()));
         }
         if kind.is_four_bytes() {
             wanted.push(format!("rule (g): {}", kind.name()));
-            // The number asked is not judged.
-            if *kind != Kind::SipNumberAuthItems {
+            // The number asked and the reference are not judged.
+            if !matches!(kind, Kind::SipNumberAuthItems | Kind::DataReference) {
                 wanted.push(format!("rule (h): {}", kind.name()));
             }
         }
     }
-    for kind in [Kind::ServerName, Kind::VendorSpecificApplicationId, Kind::SipAuthDataItem] {
+    let judged = match dialect {
+        Dialect::Cx => &[Kind::ServerName, Kind::SipAuthDataItem, Kind::SupportedFeatures][..],
+        Dialect::Sh => &[Kind::UserIdentity],
+    };
+    for kind in judged.iter().chain(&[Kind::VendorSpecificApplicationId]) {
         wanted.push(format!("rule (h): {}", kind.name()));
     }
 }
 
-fn missing(wanted: &mut Vec<String>) {
-    for command in COMMANDS {
+fn missing(wanted: &mut Vec<String>, dialect: Dialect) {
+    for command in dialect.commands() {
         // A missing Session-Id is rule (b), unless there are no AVPs.
-        for kind in needed(command).into_iter().skip(1) {
+        for kind in needed(*command).into_iter().skip(1) {
             wanted.push(format!("missing: {}", kind.name()));
         }
     }
@@ -171,7 +208,7 @@ fn results(wanted: &mut Vec<String>) {
     for code in [2001, 3001, 3007, 3008, 3009, 5001, 5003, 5004, 5005, 5009, 5011, 5012, 5014] {
         wanted.push(format!("result: B{code}"));
     }
-    for code in [2001, 2002, 2003, 2004, 5001, 5002, 5003, 5004, 5005, 5006, 5007] {
+    for code in [2001, 2002, 2003, 2004, 5001, 5002, 5003, 5004, 5005, 5006, 5007, 5011] {
         wanted.push(format!("result: X{code}"));
     }
 }
@@ -233,6 +270,7 @@ fn answers(wanted: &mut Vec<String>) {
         "Failed-AVP without data",
         "Failed-AVP with a Proxy-Info",
         "an item",
+        "the own list",
         "records rewritten",
         "of edition 1 rewritten",
         "of edition 2 and no set rewritten",

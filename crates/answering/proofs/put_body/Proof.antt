@@ -1,4 +1,4 @@
-use Rattle.answering.proofs.Whole.{top-room, rest-room, wrote-body}
+use Rattle.answering.proofs.Whole.{listed-is, top-room, rest-room, wrote-body}
 use Rattle.octets.specs.Standard.{needs}
 use Rattle.answering.proofs.put_body.Statement.{statement}
 use Rattle.answering.proofs.put_body.Tie as tie
@@ -7,7 +7,7 @@ pub put-body-spec : {M : Type 1} → statement M
 put-body-spec =
     tie.close
     (tie.spec
-    (λ c κs. search (needs, top-room))
+    (λ c κs. search (needs, listed-is, top-room))
     (λ c. search needs)
     (λ c. search needs)
     (λ c. search needs)

@@ -1,4 +1,5 @@
-use Rattle.calling.proofs.Calls.{refuses, passes, rest-serves}
+use Rattle.refusals.proofs.Passing.{passes}
+use Rattle.calling.proofs.Calls.{refuses, rest-serves}
 use Rattle.octets.specs.Standard.{needs}
 use Rattle.calling.proofs.call_over.Statement.{statement}
 use Rattle.calling.proofs.call_over.Tie as tie

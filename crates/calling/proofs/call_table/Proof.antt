@@ -1,4 +1,5 @@
-use Rattle.calling.proofs.Calls.{refuses, passes, call-serves}
+use Rattle.refusals.proofs.Passing.{passes}
+use Rattle.calling.proofs.Calls.{refuses, call-serves}
 use Rattle.octets.specs.Standard.{needs}
 use Rattle.calling.proofs.call_table.Statement.{statement}
 use Rattle.calling.proofs.call_table.Tie as tie

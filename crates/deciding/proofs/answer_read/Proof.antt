@@ -8,7 +8,7 @@ answer-read-spec =
     tie.close
     (tie.spec
     (λ c κs. search needs)
-    (λ c κs. (search needs, search needs, search needs, search (needs, plan-room), search needs))
+    (λ c κs. (search needs, search needs, search needs, search needs, search (needs, plan-room), search needs))
     (λ c κs. search needs)
     (λ c. search needs)
     (λ c. search needs)

@@ -1,5 +1,5 @@
-use Rattle.requests.proofs.Requests.{judged-fine, judged-bad}
-use Rattle.deciding.proofs.Answering.{fault-near}
+use Rattle.requests.proofs.Requests.{judged-fine}
+use Rattle.deciding.proofs.Answering.{fault-decided, fault-near}
 use Rattle.octets.specs.Standard.{needs}
 use Rattle.deciding.proofs.answer_sound.Statement.{statement}
 use Rattle.deciding.proofs.answer_sound.Tie as tie
@@ -12,7 +12,7 @@ answer-sound-spec =
     (λ c. search needs)
     (λ c κs. search (needs, judged-fine))
     (λ c. search needs)
-    (λ c κs. search (needs, judged-bad, fault-near))
+    (λ c κs. search (needs, fault-decided, fault-near))
     (λ c. search needs)
     (λ c. search needs)
     (λ c. search needs)

@@ -1,4 +1,4 @@
-use Rattle.requests.proofs.Requests.{request-header, request-first, request-walked}
+use Rattle.requests.proofs.Requests.{request-cx}
 use Rattle.octets.specs.Standard.{needs}
 use Rattle.requests.proofs.read_in.Statement.{statement}
 use Rattle.requests.proofs.read_in.Tie as tie
@@ -9,10 +9,4 @@ read-in-spec =
     (tie.spec
     (λ c κs. search needs)
     (λ c κs. search needs)
-    (λ c. search (needs, request-header))
-    (λ c κs. search needs)
-    (λ c κs. search needs)
-    (λ c. search (needs, request-first))
-    (λ c κs. search needs)
-    (λ c κs. search needs)
-    (λ c. search (needs, request-walked)))
+    (λ c. search (needs, request-cx)))

@@ -3,7 +3,7 @@
 use super::people::{other_private, some_record, unknown_private, unknown_public};
 use crate::gen::model::{RecordModel, TableModel};
 use crate::gen::names;
-use crate::gen::request::Piece;
+use crate::gen::request::{single, Piece};
 use crate::kinds::{Kind, SCHEME, SIP_AUTHENTICATION_SCHEME, VENDOR};
 use crate::message::M;
 use crate::rng::Rng;
@@ -30,17 +30,9 @@ pub fn multimedia_auth(rng: &mut Rng, table: &TableModel) -> Vec<Piece> {
     ]
 }
 
-/// What 612 holds, rightly: one 608 with this scheme. M and P are free, and its padding is whole or cut.
+/// What 612 holds, rightly: one 608 with this scheme.
 pub fn item(rng: &mut Rng, scheme: Vec<u8>) -> Vec<u8> {
-    let flags = if rng.once_in(4) { *rng.pick(&[0, 0x20, 0x60]) } else { M };
-    let member = Piece::new(rng, Some(VENDOR), SIP_AUTHENTICATION_SCHEME, flags, scheme);
-    let padding = member.padded() - member.length();
-    let mut data = Vec::new();
-    member.encode(&mut data);
-    if padding > 0 && rng.coin() {
-        data.truncate(data.len() - rng.between(1, padding));
-    }
-    data
+    single(rng, SIP_AUTHENTICATION_SCHEME, scheme)
 }
 
 /// A 608, without what stands around it.

@@ -2,15 +2,18 @@
 
 mod authentication;
 mod people;
+mod user_data;
 
 pub use authentication::{item, number_asked, other_scheme, scheme};
 pub use people::{unknown_private, unknown_public, ABSENT};
+pub use user_data::{data_reference, identity_group, user_data_request};
 
+use super::features;
 use super::model::{RecordModel, TableModel};
 use super::names;
 use super::request::{application, Piece, RequestModel};
 use super::sets;
-use crate::kinds::{Command, Kind, APPLICATION};
+use crate::kinds::{Command, Dialect, Kind};
 use crate::message::{P, R};
 use crate::rng::Rng;
 use crate::table::{LONGEST_SERVER_NAME, NOT_REGISTERED, PENDING};
@@ -19,7 +22,18 @@ use people::{other_private, some_record};
 
 pub const REMOVALS: [u32; 6] = [4, 5, 6, 7, 8, 11];
 
-/// A request of any command. The table may be changed to suit it.
+/// A request of this interface. The table may be changed to suit it.
+pub fn of(rng: &mut Rng, dialect: Dialect, table: &mut TableModel) -> RequestModel {
+    match dialect {
+        Dialect::Cx => any(rng, table),
+        Dialect::Sh => {
+            let mut own = user_data_request(rng, table);
+            surround(rng, Command::UserData, &mut own)
+        }
+    }
+}
+
+/// A request of any command of Cx. The table may be changed to suit it.
 pub fn any(rng: &mut Rng, table: &mut TableModel) -> RequestModel {
     let command = match rng.below(23) {
         0..=5 => Command::UserAuthorization,
@@ -33,7 +47,7 @@ pub fn any(rng: &mut Rng, table: &mut TableModel) -> RequestModel {
     let mut own = match command {
         Command::UserAuthorization => user_authorization(rng, table),
         Command::LocationInfo => location_info(rng, table),
-        Command::MultimediaAuth => multimedia_auth(rng, table),
+        Command::MultimediaAuth | Command::UserData => multimedia_auth(rng, table),
         Command::ServerAssignment => {
             let asked_type = rng.below(12) as u32;
             server_assignment(rng, table, asked_type)
@@ -72,7 +86,7 @@ pub fn authentication(rng: &mut Rng, table: &TableModel) -> RequestModel {
 pub fn surround(rng: &mut Rng, command: Command, own: &mut Vec<Piece>) -> RequestModel {
     let session = text(rng, "cscf.isle;1;");
     let mut pieces = vec![Piece::of(rng, Kind::SessionId, session)];
-    let group = application(rng);
+    let group = application(rng, command.dialect());
     let mut rest =
         vec![Piece::of(rng, Kind::VendorSpecificApplicationId, group), Piece::number(rng, Kind::AuthSessionState, 1)];
     for kind in [Kind::OriginHost, Kind::OriginRealm, Kind::DestinationRealm] {
@@ -91,16 +105,24 @@ pub fn surround(rng: &mut Rng, command: Command, own: &mut Vec<Piece>) -> Reques
             }
         }
     }
+    if rng.once_in(8) {
+        for _ in 0..rng.between(1, 2) {
+            // With M most of them would be unsupported.
+            let (asked, marked) = (features::any(rng), rng.once_in(8));
+            rest.push(features::piece(rng, asked, marked));
+        }
+    }
     rest.append(own);
     if rng.coin() {
         rng.shuffle(&mut rest);
     }
     pieces.append(&mut rest);
     RequestModel {
+        dialect: command.dialect(),
         version: 1,
         flags: R | if rng.coin() { P } else { 0 },
         command: command.code(),
-        application: APPLICATION,
+        application: command.dialect().application(),
         hop_by_hop: rng.word(),
         end_to_end: rng.word(),
         told_length: None,

@@ -8,7 +8,7 @@ use crate::gen::peers;
 use crate::gen::request::RequestModel;
 use crate::gen::tables::{self, Sound};
 use crate::gen::vectors::{self, model::VectorModel};
-use crate::kinds::{Command, Kind};
+use crate::kinds::{Command, Dialect, Kind};
 use crate::refuse::LEAST_BUFFER;
 use crate::rng::Rng;
 use crate::stated::Stated;
@@ -23,19 +23,19 @@ pub struct Call {
     pub notes: Vec<&'static str>,
 }
 
-/// A right request over a table of few records, now and then of many or none.
-pub fn right(rng: &mut Rng) -> Call {
+/// A right request of this interface over a table of few records, now and then of many or none.
+pub fn right(rng: &mut Rng, dialect: Dialect) -> Call {
     let size = match rng.below(1000) {
         0..=9 => tables::many(rng),
         10..=37 => 0,
         _ => rng.between(1, 12),
     };
-    right_over(rng, size)
+    right_over(rng, dialect, size)
 }
 
-pub fn right_over(rng: &mut Rng, records: usize) -> Call {
+pub fn right_over(rng: &mut Rng, dialect: Dialect, records: usize) -> Call {
     let mut sound = tables::sound(rng, records);
-    let request = asks::any(rng, &mut sound.model);
+    let request = asks::of(rng, dialect, &mut sound.model);
     Call::new(rng, sound, request)
 }
 
@@ -61,9 +61,14 @@ impl Call {
 
     pub fn with_request(self, rng: &mut Rng, request: Vec<u8>) -> Made {
         let table = areas::of(rng, &self.sound.model, 5);
-        let vectors = vectors::model::encode(&self.vectors);
-        let profile = self.sound.profile;
-        let case = Case::decide(rng.byte(), request, table, profile, vectors, self.buffer_length, self.stated);
+        let (profile, buffer) = (self.sound.profile, self.buffer_length);
+        let case = match self.request.dialect {
+            Dialect::Cx => {
+                let vectors = vectors::model::encode(&self.vectors);
+                Case::decide(rng.byte(), request, table, profile, vectors, buffer, self.stated)
+            }
+            Dialect::Sh => Case::sh_decide(rng.byte(), request, table, profile, buffer, self.stated.peer),
+        };
         Made { case, notes: self.notes, damaged: None }
     }
 }

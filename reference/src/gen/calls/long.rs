@@ -9,7 +9,7 @@ use crate::gen::request::{Piece, RequestModel};
 use crate::gen::sets;
 use crate::gen::tables::{self, FAR};
 use crate::gen::twists;
-use crate::kinds::{Command, Kind};
+use crate::kinds::{Command, Dialect, Kind};
 use crate::message::{padded, M};
 use crate::refuse::MOST_REQUEST;
 use crate::rng::Rng;
@@ -17,7 +17,7 @@ use crate::table::{LONGEST_PROFILE, LONGEST_SERVER_NAME, MOST_RECORDS, PENDING};
 
 /// A removal of hundreds of identities: of a subscription that has them, or of few named again and again.
 pub fn identities(rng: &mut Rng) -> Made {
-    let mut call = right(rng).noted("many identities");
+    let mut call = right(rng, Dialect::Cx).noted("many identities");
     let model = &mut call.sound.model;
     if rng.once_in(4) {
         call.sound.model = big_subscription(rng, model);
@@ -30,7 +30,7 @@ pub fn identities(rng: &mut Rng) -> Made {
     let same: Vec<Vec<u8>> =
         model.records.iter().filter(|it| it.private == first.private).map(|it| it.public.clone()).collect();
     let mut identities = Vec::new();
-    let mut room = MOST_REQUEST - 600;
+    let mut room = MOST_REQUEST - 750;
     let wanted = rng.between(100, 900);
     for n in 0..wanted {
         let public = if n < same.len() { &same[n] } else { rng.pick(&same) };
@@ -86,7 +86,7 @@ fn big_subscription(rng: &mut Rng, model: &TableModel) -> TableModel {
 }
 
 /// A request over 4,096 records, for the first or the last of them as often as not.
-pub fn table(rng: &mut Rng) -> Made {
+pub fn table(rng: &mut Rng, dialect: Dialect) -> Made {
     let mut sound = tables::sound(rng, MOST_RECORDS as usize);
     let mut few = sound.model.clone();
     few.records = match rng.below(3) {
@@ -94,7 +94,7 @@ pub fn table(rng: &mut Rng) -> Made {
         1 => sound.model.records[MOST_RECORDS as usize - 1..].to_vec(),
         _ => sound.model.records[..].iter().filter(|_| rng.once_in(300)).cloned().collect(),
     };
-    let request = asks::any(rng, &mut few);
+    let request = asks::of(rng, dialect, &mut few);
     // The asked records may have been changed to suit the request.
     for record in few.records {
         if let Some(place) = sound.model.records.iter_mut().find(|it| it.public == record.public) {
@@ -121,8 +121,8 @@ fn filling(rng: &mut Rng, request: &RequestModel, aim: usize, kind: Kind, longes
 }
 
 /// A request of 16,384 bytes whose last AVP is at fault: where only 4 bytes are left for it, its place is the farthest.
-pub fn far_fault(rng: &mut Rng) -> Made {
-    let mut call = right(rng).noted("a fault at the far end");
+pub fn far_fault(rng: &mut Rng, dialect: Dialect) -> Made {
+    let mut call = right(rng, dialect).noted("a fault at the far end");
     let kind = *rng.pick(&[Kind::ProxyInfo, Kind::RouteRecord, Kind::RouteRecord]);
     let mut last = Piece::of(rng, kind, vec![]);
     let mut tail = vec![];
@@ -146,8 +146,8 @@ pub fn far_fault(rng: &mut Rng) -> Made {
 }
 
 /// A request brought to 16,384 bytes, or a little under or over, by AVPs that may repeat.
-pub fn request(rng: &mut Rng) -> Made {
-    let mut call = right(rng).noted("about 16,384 bytes");
+pub fn request(rng: &mut Rng, dialect: Dialect) -> Made {
+    let mut call = right(rng, dialect).noted("about 16,384 bytes");
     if rng.once_in(3) {
         call.notes.push(twists::twist_once(rng, &mut call.request));
     }
@@ -168,8 +168,8 @@ pub fn request(rng: &mut Rng) -> Made {
 }
 
 /// One very long AVP that is at fault, so that it stands in Failed-AVP; a Proxy-Info stands there twice.
-pub fn faulty_avp(rng: &mut Rng) -> Made {
-    let mut call = right(rng).noted("a long AVP at fault");
+pub fn faulty_avp(rng: &mut Rng, dialect: Dialect) -> Made {
+    let mut call = right(rng, dialect).noted("a long AVP at fault");
     let base = call.request.length();
     let length = MOST_REQUEST.saturating_sub(base + 8);
     let length = if rng.coin() { length } else { rng.below(length + 1) };

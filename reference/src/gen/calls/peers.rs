@@ -5,18 +5,18 @@ use crate::gen::made::Made;
 use crate::gen::peers;
 use crate::gen::request::member;
 use crate::gen::twists;
-use crate::kinds::{Kind, APPLICATION, AUTH_APPLICATION_ID, VENDOR, VENDOR_ID};
+use crate::kinds::{Dialect, Kind, AUTH_APPLICATION_ID, VENDOR, VENDOR_ID};
 use crate::message::{M, V};
 use crate::rng::Rng;
 
 pub const NOTES: [&str; 3] =
     ["several Vendor-Ids alone", "several Vendor-Ids and a fault beside them", "several Vendor-Ids and a twist"];
 
-pub fn case(rng: &mut Rng) -> Made {
-    let mut call = right(rng);
+pub fn case(rng: &mut Rng, dialect: Dialect) -> Made {
+    let mut call = right(rng, dialect);
     let which = rng.below(NOTES.len());
     call.stated = peers::known(rng);
-    let data = group(rng, which == 1);
+    let data = group(rng, dialect.application(), which == 1);
     if let Some(at) = call.request.place(Kind::VendorSpecificApplicationId) {
         call.request.pieces[at].data = data;
         // M of a known kind does not count.
@@ -38,10 +38,10 @@ pub fn case(rng: &mut Rng) -> Made {
 }
 
 /// Two Vendor-Ids or more and the application, in any order; with a fault beside them if one is wanted.
-fn group(rng: &mut Rng, faulty: bool) -> Vec<u8> {
+fn group(rng: &mut Rng, own: u32, faulty: bool) -> Vec<u8> {
     let many = if rng.once_in(4) { rng.between(3, 5) } else { 2 };
     let mut members: Vec<Vec<u8>> = (0..many).map(|_| member(VENDOR_ID, flags(rng), VENDOR)).collect();
-    let application = member(AUTH_APPLICATION_ID, flags(rng), APPLICATION);
+    let application = member(AUTH_APPLICATION_ID, flags(rng), own);
     if !faulty {
         members.push(application);
         rng.shuffle(&mut members);
@@ -50,9 +50,9 @@ fn group(rng: &mut Rng, faulty: bool) -> Vec<u8> {
     match rng.below(7) {
         0 => {}
         1 => members.extend([application.clone(), application]),
-        2 => members.extend([application, member(*rng.pick(&[259, 1, 268]), M, APPLICATION)]),
+        2 => members.extend([application, member(*rng.pick(&[259, 1, 268]), M, own)]),
         3 => members.extend([application, member(VENDOR_ID, M, *rng.pick(&[0, 50, VENDOR + 1]))]),
-        4 => members.push(member(AUTH_APPLICATION_ID, M, APPLICATION + 1)),
+        4 => members.push(member(AUTH_APPLICATION_ID, M, own ^ 1)),
         5 => members.extend([application, member(VENDOR_ID, V | M, VENDOR)]),
         _ => members.extend([application, member(VENDOR_ID, M | 1 << rng.below(5), VENDOR)]),
     }

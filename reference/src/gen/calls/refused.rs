@@ -10,13 +10,14 @@ use crate::gen::peers;
 use crate::gen::tables::FAR;
 use crate::gen::twists;
 use crate::gen::vectors;
+use crate::kinds::Dialect;
 use crate::message::{HEADER, R};
 use crate::refuse::{LEAST_BUFFER, MOST_REQUEST};
 use crate::rng::Rng;
 
 /// Several reasons to refuse at once: the first in order counts.
-pub fn several(rng: &mut Rng) -> Made {
-    let mut call = right(rng).noted("several refusals");
+pub fn several(rng: &mut Rng, dialect: Dialect) -> Made {
+    let mut call = right(rng, dialect).noted("several refusals");
     let mut why = [false; 6];
     for it in &mut why {
         *it = rng.coin();
@@ -58,9 +59,9 @@ pub fn several(rng: &mut Rng) -> Made {
 }
 
 /// Over 65,536 bytes, and in 16 bits the length of a request that would be answered.
-pub fn overlong(rng: &mut Rng) -> Made {
+pub fn overlong(rng: &mut Rng, dialect: Dialect) -> Made {
     let records = rng.between(4, 12);
-    let call = right_over(rng, records).noted("over 65,536 bytes");
+    let call = right_over(rng, dialect, records).noted("over 65,536 bytes");
     let mut bytes = call.request.encode();
     bytes.resize(bytes.len() + FAR * rng.between(1, 2), 0);
     if rng.coin() {
@@ -71,8 +72,8 @@ pub fn overlong(rng: &mut Rng) -> Made {
 }
 
 /// Requests of no, few or 20 bytes and a little more.
-pub fn short(rng: &mut Rng) -> Made {
-    let call = right(rng).noted("about 20 bytes");
+pub fn short(rng: &mut Rng, dialect: Dialect) -> Made {
+    let call = right(rng, dialect).noted("about 20 bytes");
     let length = if rng.coin() { rng.between(16, 32) } else { rng.below(20) };
     let mut bytes = call.request.encode();
     bytes.truncate(length);
@@ -82,16 +83,16 @@ pub fn short(rng: &mut Rng) -> Made {
     call.with_request(rng, bytes)
 }
 
-pub fn buffers(rng: &mut Rng) -> Made {
-    let mut call = right(rng).noted("another buffer");
+pub fn buffers(rng: &mut Rng, dialect: Dialect) -> Made {
+    let mut call = right(rng, dialect).noted("another buffer");
     call.buffer_length =
         *rng.pick(&[0, 1, LEAST_BUFFER - 4, LEAST_BUFFER - 1, LEAST_BUFFER - 1, LEAST_BUFFER + 1, 40_000, 65_536]);
     call.finish(rng)
 }
 
 /// A peer that follows neither edition, under any request.
-pub fn unknown_peer(rng: &mut Rng) -> Made {
-    let mut call = right(rng).noted("an unknown peer");
+pub fn unknown_peer(rng: &mut Rng, dialect: Dialect) -> Made {
+    let mut call = right(rng, dialect).noted("an unknown peer");
     call.stated = peers::unknown(rng);
     if rng.coin() {
         call.notes.push(twists::twist_once(rng, &mut call.request));
@@ -101,8 +102,8 @@ pub fn unknown_peer(rng: &mut Rng) -> Made {
 
 /// A damaged table under a request that would be answered, also under one that needs no record; now and then beside a
 /// damaged vector file.
-pub fn damaged(rng: &mut Rng) -> Made {
-    let mut call = right(rng).noted("damaged table");
+pub fn damaged(rng: &mut Rng, dialect: Dialect) -> Made {
+    let mut call = right(rng, dialect).noted("damaged table");
     if rng.once_in(3) {
         call.notes.push(twists::twist_once(rng, &mut call.request));
     }
@@ -116,7 +117,7 @@ pub fn damaged(rng: &mut Rng) -> Made {
 
 /// A damaged vector file under any request, also under one with a fault.
 pub fn damaged_vectors(rng: &mut Rng) -> Made {
-    let mut call = right(rng).noted("damaged vectors");
+    let mut call = right(rng, Dialect::Cx).noted("damaged vectors");
     if rng.once_in(3) {
         call.notes.push(twists::twist_once(rng, &mut call.request));
     }
@@ -152,8 +153,8 @@ fn damage_table(rng: &mut Rng, mut call: Call, request: Vec<u8>) -> Made {
 }
 
 /// A right request over an area that a take-over was cut in.
-pub fn cut(rng: &mut Rng) -> Made {
-    let call = right(rng).noted("a cut take-over");
+pub fn cut(rng: &mut Rng, dialect: Dialect) -> Made {
+    let call = right(rng, dialect).noted("a cut take-over");
     let old = call.sound.model.clone();
     let mut area = old.encode();
     let fresh = areas::successor(rng, &old, &call.sound.profile, &area).encode();

@@ -3,6 +3,7 @@
 use super::side::Asked;
 use crate::cases::{Case, Slice};
 use crate::gen::damage::{damage, Subject};
+use crate::gen::features;
 use crate::gen::model::{RecordModel, TableModel};
 use crate::gen::names;
 use crate::gen::peers;
@@ -11,7 +12,7 @@ use crate::kinds::{Command, Kind};
 use crate::message::Message;
 use crate::rng::Rng;
 use crate::slip::Slip;
-use crate::stated::Stated;
+use crate::stated::{Stated, RFC_3588, RFC_6733};
 use crate::table::{
     check, Table, BARRED, LONGEST_HOST, LONGEST_IDENTITY, LONGEST_SERVER_NAME, MOST_RECORDS, NOT_REGISTERED, PENDING,
     UNREGISTERED_SERVICES,
@@ -46,6 +47,7 @@ pub enum Breach {
     Network,
     Request,
     Peer,
+    Features,
     Vectors,
     Edition,
     PendingAlone,
@@ -53,7 +55,7 @@ pub enum Breach {
 }
 
 // Those that answers show.
-breaches! { BREACHES of 21:
+breaches! { BREACHES of 22:
     State "the state of a record of mine",
     ServerName "the server name of a record of mine",
     Pending "pending, and so a name, of a record of mine in state 0",
@@ -74,6 +76,7 @@ breaches! { BREACHES of 21:
     Network "a network of the header",
     Request "the request",
     Peer "the peer's edition",
+    Features "the server's features",
     Vectors "the vectors, under a MAR",
 }
 
@@ -99,9 +102,21 @@ impl Breach {
 
 /// What is stated on the two sides: the same, unless that is what differs.
 pub fn stated(rng: &mut Rng, breach: Breach) -> [Stated; 2] {
+    let stated = peers::known(rng);
     match breach {
-        Breach::Peer => [Stated::OLDER, Stated::NEWER],
-        _ => [peers::known(rng); 2],
+        // Where both are read, the first one is.
+        Breach::Peer => [Stated { peer: RFC_3588, ..stated }, Stated { peer: RFC_6733, ..stated }],
+        Breach::Features => [stated, Stated { features: another_features(rng, stated.features), ..stated }],
+        _ => [stated; 2],
+    }
+}
+
+fn another_features(rng: &mut Rng, features: u32) -> u32 {
+    loop {
+        let other = if rng.coin() { features ^ 1 << rng.below(32) } else { features::set(rng) };
+        if other != features {
+            return other;
+        }
     }
 }
 
@@ -137,7 +152,7 @@ pub fn done(
         }
         Breach::RecordMore => more(rng, table, profile, asked)?,
         Breach::Order => other_way_round(rng, table, asked)?,
-        Breach::Peer | Breach::Vectors | Breach::Unsound => {}
+        Breach::Peer | Breach::Features | Breach::Vectors | Breach::Unsound => {}
         _ => of_record(rng, breach, table, profile, request, asked)?,
     }
     Some(())

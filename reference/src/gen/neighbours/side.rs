@@ -10,8 +10,9 @@ use crate::gen::names;
 use crate::gen::sets;
 use crate::gen::tables::{self, Sound, FAR};
 use crate::gen::vectors;
+use crate::kinds::Dialect;
 use crate::message::Message;
-use crate::read::read;
+use crate::read::{read, read_sh};
 use crate::refuse::LEAST_BUFFER;
 use crate::rng::Rng;
 use crate::slip::Slip;
@@ -27,14 +28,18 @@ pub struct Asked {
 
 impl Asked {
     /// What the walk keeps as named; nothing of a request with a fault in reading, of which nobody is looked up.
-    pub fn of(request: &[u8], stated: Stated) -> Asked {
-        match read(Message(request), stated, Slip::NONE) {
-            Ok(read) => Asked {
+    pub fn of(request: &[u8], dialect: Dialect, stated: Stated) -> Asked {
+        let message = Message(request);
+        let found = match dialect {
+            Dialect::Cx => read(message, stated, Slip::NONE).map(|read| Asked {
                 publics: read.identities.iter().map(|avp| avp.data.to_vec()).collect(),
                 user_name: read.user_name.map(<[u8]>::to_vec),
-            },
-            Err(_) => Asked::default(),
-        }
+            }),
+            // Its User-Name is not used.
+            Dialect::Sh => read_sh(message, stated, Slip::NONE)
+                .map(|read| Asked { publics: [read.identity.to_vec()].into(), user_name: None }),
+        };
+        found.unwrap_or_default()
     }
 
     /// The private identities that the request names, or that a record of its public identities has.
@@ -198,8 +203,8 @@ fn stale(rng: &mut Rng, table: &TableModel, asked: &Asked) -> RecordModel {
 }
 
 /// The call over a side, with vectors, old bytes of the buffer and a length of it that are its own. Few are refused for buffer or vectors.
-pub fn call(rng: &mut Rng, side: &Sound, request: Vec<u8>, stated: Stated, few: bool) -> Case {
-    let about = Asked::of(&request, stated);
+pub fn call(rng: &mut Rng, dialect: Dialect, side: &Sound, request: Vec<u8>, stated: Stated, few: bool) -> Case {
+    let about = Asked::of(&request, dialect, stated);
     let asked = side.model.records.first().filter(|_| rng.once_in(60)).map(|record| record.private.clone());
     let mut vectors = vectors::model::encode(&vectors::beside(rng, &side.model, asked.as_deref()));
     let mut buffer = LEAST_BUFFER;
@@ -212,5 +217,9 @@ pub fn call(rng: &mut Rng, side: &Sound, request: Vec<u8>, stated: Stated, few: 
         _ => {}
     }
     let area = area(rng, &side.model, &about);
-    Case::decide(rng.byte(), request, area, side.profile.clone(), vectors, buffer, stated)
+    let profile = side.profile.clone();
+    match dialect {
+        Dialect::Cx => Case::decide(rng.byte(), request, area, profile, vectors, buffer, stated),
+        Dialect::Sh => Case::sh_decide(rng.byte(), request, area, profile, buffer, stated.peer),
+    }
 }

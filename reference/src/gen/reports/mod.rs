@@ -18,10 +18,11 @@ use crate::table::Table;
 use month::{Files, Month};
 
 /// What a case may be noted as.
-pub const NOTES: [&str; 19] = [
+pub const NOTES: [&str; 20] = [
     "right",
     "a twist",
     "the same again",
+    "628s for the set",
     "a header alone",
     "a length that is no multiple of 4",
     "no R bit",
@@ -132,7 +133,7 @@ fn finish(rng: &mut Rng, requests: Vec<u8>, files: Files, mut stated: Stated, mu
     }
     if rng.once_in(16) {
         notes.push("an unknown peer");
-        stated = peers::unknown(rng);
+        stated.peer = peers::unknown(rng).peer;
     }
     let mut area = LEAST_REPORT;
     if rng.once_in(8) {

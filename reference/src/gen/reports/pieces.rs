@@ -2,9 +2,10 @@
 
 use super::month::Month;
 use crate::gen::asks;
+use crate::gen::features;
 use crate::gen::tables::FAR;
 use crate::gen::twists;
-use crate::kinds::{Command, APPLICATION};
+use crate::kinds::{Command, Dialect};
 use crate::message::{E, P, R};
 use crate::refuse::MOST_REQUEST;
 use crate::rng::Rng;
@@ -18,6 +19,7 @@ pub fn piece(rng: &mut Rng, month: &Month) -> (Vec<u8>, &'static str) {
         5 => (long(rng, month), "over 16,384 bytes"),
         6..=9 if !month.earlier.is_empty() => (rng.pick(&month.earlier).clone(), "the same again"),
         10..=16 => (twisted(rng, month), "a twist"),
+        17..=19 => (with_features(rng, month), "628s for the set"),
         _ => (right(rng, month), "right"),
     }
 }
@@ -43,6 +45,13 @@ pub fn all_at_once(rng: &mut Rng, month: &Month) -> Vec<u8> {
     asks::surround(rng, Command::ServerAssignment, &mut own).encode()
 }
 
+/// A right request with 628s that ask for what the month's set holds, or for more.
+fn with_features(rng: &mut Rng, month: &Month) -> Vec<u8> {
+    let mut request = asks::any(rng, &mut month.table());
+    features::ask(rng, &mut request, month.stated.features);
+    request.encode()
+}
+
 fn twisted(rng: &mut Rng, month: &Month) -> Vec<u8> {
     let mut request = match rng.below(4) {
         0 => asks::authentication(rng, &month.table()),
@@ -65,9 +74,9 @@ pub fn header(rng: &mut Rng) -> Vec<u8> {
         1 => rng.between(300, 303) as u32 | 1 << rng.between(16, 23),
         _ => rng.between(300, 303) as u32,
     };
-    let application = if rng.once_in(4) { APPLICATION + 1 } else { APPLICATION };
+    let of = if rng.once_in(4) { Dialect::Sh } else { Dialect::Cx };
     let mut bytes = vec![version, 0, 0, 20];
-    for word in [u32::from(flags) << 24 | command, application, rng.word(), rng.word()] {
+    for word in [u32::from(flags) << 24 | command, of.application(), rng.word(), rng.word()] {
         bytes.extend(word.to_be_bytes());
     }
     bytes

@@ -3,7 +3,7 @@
 use super::kinds::proxy_info;
 use super::shape::{always, if_it_fits, one_avp, Twist};
 use crate::gen::request::{application, member, RequestModel};
-use crate::kinds::{Kind, APPLICATION, AUTH_APPLICATION_ID, KINDS, VENDOR, VENDOR_ID};
+use crate::kinds::{Dialect, Kind, AUTH_APPLICATION_ID, VENDOR, VENDOR_ID};
 use crate::message::{M, V};
 use crate::rng::Rng;
 
@@ -20,15 +20,9 @@ pub const TWISTS: &[Twist] = &[
         r.pieces[at].data = u32::to_be_bytes(value).to_vec();
         Some(())
     }),
-    if_it_fits("Server-Name of another length", 5, |rng, r| {
-        let at = r.place(Kind::ServerName)?;
-        let length = *rng.pick(&[0, 1, 95, 96, 97, 98, 200, 352]);
-        r.pieces[at].data.resize(length, b's');
-        Some(())
-    }),
     if_it_fits("260: its members", 14, |rng, r| {
         let at = r.place(Kind::VendorSpecificApplicationId)?;
-        r.pieces[at].data = broken_application(rng);
+        r.pieces[at].data = broken_application(rng, r.dialect);
         Some(())
     }),
     always("Proxy-Infos", 4, |rng, r| {
@@ -63,20 +57,34 @@ pub const TWISTS: &[Twist] = &[
     }),
 ];
 
+/// Of what Cx alone has.
+pub const OF_CX: &[Twist] = &[if_it_fits("Server-Name of another length", 5, |rng, r| {
+    let at = r.place(Kind::ServerName)?;
+    let length = *rng.pick(&[0, 1, 95, 96, 97, 98, 200, 352]);
+    r.pieces[at].data.resize(length, b's');
+    Some(())
+})];
+
 fn some_of(rng: &mut Rng, request: &RequestModel, wanted: fn(Kind) -> bool) -> Option<usize> {
-    let places: Vec<usize> =
-        KINDS.iter().copied().filter(|kind| wanted(*kind)).filter_map(|kind| request.place(kind)).collect();
+    let places: Vec<usize> = request
+        .dialect
+        .kinds()
+        .into_iter()
+        .filter(|kind| wanted(*kind))
+        .filter_map(|kind| request.place(kind))
+        .collect();
     (!places.is_empty()).then(|| *rng.pick(&places))
 }
 
 /// 260 broken in one way, or in a way that only looks so.
-fn broken_application(rng: &mut Rng) -> Vec<u8> {
+fn broken_application(rng: &mut Rng, dialect: Dialect) -> Vec<u8> {
+    let own = dialect.application();
     match rng.below(22) {
-        0..=10 => other_members(rng),
-        11..=13 => member_with_v(rng),
-        14 => member_with_reserved_flags(rng),
-        15..=20 => other_bytes(rng),
-        _ => application(rng),
+        0..=10 => other_members(rng, own),
+        11..=13 => member_with_v(rng, own),
+        14 => member_with_reserved_flags(rng, own),
+        15..=20 => other_bytes(rng, own),
+        _ => application(rng, dialect),
     }
 }
 
@@ -84,12 +92,13 @@ fn vendor() -> Vec<u8> {
     member(VENDOR_ID, M, VENDOR)
 }
 
-fn auth() -> Vec<u8> {
-    member(AUTH_APPLICATION_ID, M, APPLICATION)
+fn auth(own: u32) -> Vec<u8> {
+    member(AUTH_APPLICATION_ID, M, own)
 }
 
 /// Members too few, too many, of another value or of another kind; each passes (a) and (c).
-fn other_members(rng: &mut Rng) -> Vec<u8> {
+fn other_members(rng: &mut Rng, own: u32) -> Vec<u8> {
+    let auth = || auth(own);
     match rng.below(11) {
         0 => vec![],
         1 => vendor(),
@@ -99,14 +108,14 @@ fn other_members(rng: &mut Rng) -> Vec<u8> {
         5 => [auth(), vendor(), vendor()].concat(),
         6 => [vendor(), member(VENDOR_ID, M, *rng.pick(&[0, 50, VENDOR + 1])), auth()].concat(),
         7 => [member(VENDOR_ID, M, *rng.pick(&[0, 50])), auth()].concat(),
-        8 => [vendor(), member(AUTH_APPLICATION_ID, M, *rng.pick(&[0, 1, APPLICATION + 1]))].concat(),
-        9 => [vendor(), auth(), member(*rng.pick(&[259, 263, 1, 268]), M, APPLICATION)].concat(),
+        8 => [vendor(), member(AUTH_APPLICATION_ID, M, *rng.pick(&[0, 1, own ^ 1, own ^ 1]))].concat(),
+        9 => [vendor(), auth(), member(*rng.pick(&[259, 263, 1, 268]), M, own)].concat(),
         _ => [auth(), vendor().repeat(rng.between(2, 60))].concat(),
     }
 }
 
 /// Of length 12 or 16.
-fn member_with_v(rng: &mut Rng) -> Vec<u8> {
+fn member_with_v(rng: &mut Rng, own: u32) -> Vec<u8> {
     let mut with_v = member(VENDOR_ID, V | M, VENDOR);
     if rng.coin() {
         with_v[7] = 16;
@@ -115,20 +124,20 @@ fn member_with_v(rng: &mut Rng) -> Vec<u8> {
     if rng.coin() {
         with_v[8..12].copy_from_slice(&VENDOR.to_be_bytes());
     }
-    [vendor(), with_v, auth()].concat()
+    [vendor(), with_v, auth(own)].concat()
 }
 
-fn member_with_reserved_flags(rng: &mut Rng) -> Vec<u8> {
+fn member_with_reserved_flags(rng: &mut Rng, own: u32) -> Vec<u8> {
     let flags = M | 1 << rng.below(5);
     match rng.coin() {
-        true => [member(VENDOR_ID, flags, VENDOR), auth()].concat(),
-        false => [vendor(), member(AUTH_APPLICATION_ID, flags, APPLICATION)].concat(),
+        true => [member(VENDOR_ID, flags, VENDOR), auth(own)].concat(),
+        false => [vendor(), member(AUTH_APPLICATION_ID, flags, own)].concat(),
     }
 }
 
 /// Right members with bytes more, bytes less or other bytes.
-fn other_bytes(rng: &mut Rng) -> Vec<u8> {
-    let mut data = if rng.coin() { [vendor(), auth()].concat() } else { [auth(), vendor()].concat() };
+fn other_bytes(rng: &mut Rng, own: u32) -> Vec<u8> {
+    let mut data = if rng.coin() { [vendor(), auth(own)].concat() } else { [auth(own), vendor()].concat() };
     match rng.below(6) {
         0 => {
             let more = *rng.pick(&[1, 2, 3, 4, 7, 8]);

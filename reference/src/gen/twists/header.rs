@@ -15,23 +15,23 @@ pub const TWISTS: &[Twist] = &[
     }),
     always("header: command", 3, |rng, r| {
         r.command = match rng.below(3) {
-            0 => *rng.pick(&[299, 304, 0, 0xFF_FFFF]),
+            0 => *rng.pick(&[299, 304, 305, 306, 307, 307, 0, 0xFF_FFFF]),
             1 => rng.word() & 0xFF_FFFF,
-            _ => 300 | 1 << rng.between(9, 23),
+            _ => r.command | 1 << rng.between(9, 23),
         };
     }),
     always("header: another command that is served", 2, |rng, r| {
         r.command = rng.between(300, 303) as u32;
     }),
     always("header: application", 2, |rng, r| {
-        r.application = *rng.pick(&[0, 1, 16_777_217, 167_772_151, 0xFFFF_FFFF]);
+        r.application = *rng.pick(&[0, 1, r.application ^ 1, 167_772_151, 0xFFFF_FFFF]);
     }),
     always("header: several faults", 4, |rng, r| {
         for _ in 0..3 {
             match rng.below(4) {
                 0 => r.version = 2,
                 1 => r.flags |= E,
-                2 => r.command = 304,
+                2 => r.command = *rng.pick(&[304, 305]),
                 _ => r.application = 0,
             }
         }

@@ -2,7 +2,7 @@
 
 use super::shape::{always, one_avp, Twist};
 use crate::gen::request::Piece;
-use crate::kinds::{KINDS, VENDOR};
+use crate::kinds::VENDOR;
 use crate::message::V;
 
 pub const TWISTS: &[Twist] = &[
@@ -35,17 +35,17 @@ pub const TWISTS: &[Twist] = &[
         r.pieces[at].told_length = Some(if rng.coin() { length + by } else { length.saturating_sub(by) });
     }),
     always("a header cut off after 4 bytes", 3, |rng, r| {
-        r.tail = rng.pick(KINDS).code().to_be_bytes().to_vec();
+        r.tail = rng.pick(&r.dialect.kinds()).code().to_be_bytes().to_vec();
     }),
     always("a header with V cut off after 8 bytes", 3, |rng, r| {
-        r.tail = rng.pick(KINDS).code().to_be_bytes().to_vec();
+        r.tail = rng.pick(&r.dialect.kinds()).code().to_be_bytes().to_vec();
         let length = *rng.pick(&[0, 7, 8, 9, 12, 16]);
         r.tail.extend((u32::from(V | rng.byte()) << 24 | length).to_be_bytes());
     }),
     always("a header without data at the end", 3, |rng, r| {
         let length = *rng.pick(&[0, 7, 8, 9, 11, 12, 13]);
         let flags = if rng.coin() { V } else { 0 };
-        r.tail = rng.pick(KINDS).code().to_be_bytes().to_vec();
+        r.tail = rng.pick(&r.dialect.kinds()).code().to_be_bytes().to_vec();
         r.tail.extend((u32::from(flags) << 24 | length).to_be_bytes());
         if flags == V {
             r.tail.extend(VENDOR.to_be_bytes());

@@ -1,30 +1,44 @@
 //! Twists: what goes wrong in a request, or only looks so.
 
 mod content;
+mod features;
 mod header;
 mod items;
 mod kinds;
 mod lengths;
 mod presence;
 mod shape;
+mod single;
+mod user_data;
 
+pub use features::broken as broken_features;
 pub use kinds::unknown;
 pub use shape::Twist;
 
 use super::request::RequestModel;
+use crate::kinds::Dialect;
 use crate::rng::Rng;
 
-/// Every twist.
-pub fn twists() -> impl Iterator<Item = &'static Twist> {
-    [header::TWISTS, presence::TWISTS, kinds::TWISTS, lengths::TWISTS, content::TWISTS, items::TWISTS]
-        .into_iter()
-        .flatten()
+/// Every twist of a request of this interface.
+pub fn twists(dialect: Dialect) -> impl Iterator<Item = &'static Twist> {
+    let common = [header::TWISTS, presence::TWISTS, kinds::TWISTS, lengths::TWISTS, content::TWISTS, features::TWISTS];
+    let own = match dialect {
+        Dialect::Cx => [items::TWISTS, content::OF_CX],
+        Dialect::Sh => [user_data::TWISTS, &[]],
+    };
+    common.into_iter().chain(own).flatten()
 }
 
 /// Does one twist, the heavier ones more often; gives its name.
 pub fn twist_once(rng: &mut Rng, request: &mut RequestModel) -> &'static str {
-    let all: Vec<&Twist> = twists().collect();
+    let all: Vec<&Twist> = twists(request.dialect).collect();
     one_of(rng, &all, request)
+}
+
+/// Does one twist of what a User-Data-Request alone has.
+pub fn twist_user_data(rng: &mut Rng, request: &mut RequestModel) -> &'static str {
+    let own: Vec<&Twist> = user_data::TWISTS.iter().collect();
+    one_of(rng, &own, request)
 }
 
 /// Does one twist of what a MAR alone has.

@@ -56,12 +56,12 @@ pub const TWISTS: &[Twist] = &[
         Some(())
     }),
     always("an unknown AVP first", 2, |rng, r| {
-        let piece = unknown(rng);
+        let piece = unknown(rng, r.dialect);
         r.pieces.insert(0, piece);
     }),
     always("a first AVP that is at fault besides", 4, |rng, r| {
         let mut piece = match r.pieces.len() {
-            0 => unknown(rng),
+            0 => unknown(rng, r.dialect),
             count => r.pieces.remove(rng.below(count)),
         };
         match rng.below(3) {

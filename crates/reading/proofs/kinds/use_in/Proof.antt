@@ -1,4 +1,4 @@
-use Rattle.reading.proofs.Known.{in-uar, in-sar, in-lir, in-mar}
+use Rattle.reading.proofs.Known.{in-uar, in-sar, in-lir, in-udr, in-mar}
 use Rattle.octets.specs.Standard.{needs}
 use Rattle.reading.proofs.kinds.use_in.Statement.{statement}
 use Rattle.reading.proofs.kinds.use_in.Tie as tie
@@ -10,4 +10,5 @@ use-in-spec =
     (λ c. search (needs, in-uar))
     (λ c. search (needs, in-sar))
     (λ c. search (needs, in-lir))
+    (λ c. search (needs, in-udr))
     (λ c. search (needs, in-mar)))

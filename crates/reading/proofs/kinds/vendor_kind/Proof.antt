@@ -17,4 +17,7 @@ vendor-kind-spec =
     (λ c. (rw (c .match .keys6), search needs))
     (λ c. (rw (c .match .keys7), search needs))
     (λ c. (rw (c .match .keys8), search needs))
+    (λ c. (rw (c .match .keys9), search needs))
+    (λ c. (rw (c .match .keys10), search needs))
+    (λ c. (rw (c .match .keys11), search needs))
     (λ c. search (needs, vendor-none)))

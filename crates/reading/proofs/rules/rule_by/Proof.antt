@@ -1,4 +1,4 @@
-use Rattle.reading.proofs.Judging.{rule-reserved, rule-unknown, rule-unnamed, rule-needed, rule-optional, rule-repeated}
+use Rattle.reading.proofs.Judging.{rule-reserved, rule-unknown, rule-unnamed, rule-needed, rule-optional, rule-repeated, rule-several}
 use Rattle.octets.specs.Standard.{needs}
 use Rattle.reading.proofs.rules.rule_by.Statement.{statement}
 use Rattle.reading.proofs.rules.rule_by.Tie as tie
@@ -17,8 +17,11 @@ rule-by-spec =
     (λ c κs. search needs)
     (λ c. search needs)
     (λ c κs. search needs)
+    (λ c. search needs)
+    (λ c κs. search needs)
     (λ c. search (needs, rule-unknown))
     (λ c. search (needs, rule-unnamed))
     (λ c. search (needs, rule-needed))
     (λ c. search (needs, rule-optional))
-    (λ c. search (needs, rule-repeated)))
+    (λ c. search (needs, rule-repeated))
+    (λ c. search (needs, rule-several)))

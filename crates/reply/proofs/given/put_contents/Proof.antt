@@ -1,5 +1,5 @@
 use Rattle.octets.proofs.Writes.{then}
-use Rattle.reply.proofs.Rooms.{room-left, room-right, wrote-most}
+use Rattle.envelope.proofs.Rooms.{room-left, room-right, wrote-most}
 use Rattle.octets.specs.Standard.{needs}
 use Rattle.reply.proofs.given.put_contents.Statement.{statement}
 use Rattle.reply.proofs.given.put_contents.Tie as tie

@@ -1,4 +1,4 @@
-use Rattle.reply.proofs.Rooms.{wrote-most}
+use Rattle.envelope.proofs.Rooms.{wrote-most}
 use Rattle.reply.proofs.Written.{names-room, contents-room, wrote-given}
 use Rattle.octets.specs.Standard.{needs}
 use Rattle.reply.proofs.given.put_given.Statement.{statement}

@@ -1,4 +1,4 @@
-use Rattle.reply.proofs.Rooms.{wrote-most}
+use Rattle.envelope.proofs.Rooms.{wrote-most}
 use Rattle.reply.proofs.Written.{user-room, public-room, wrote-identities}
 use Rattle.octets.specs.Standard.{needs}
 use Rattle.reply.proofs.given.put_identities.Statement.{statement}

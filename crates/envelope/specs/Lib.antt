@@ -1,0 +1,3 @@
+pub mod End
+pub mod Front
+pub mod Header

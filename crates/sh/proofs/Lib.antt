@@ -1,0 +1,4 @@
+pub mod Answers
+pub mod Referring
+pub mod Rooms
+pub mod Tellings

@@ -1,0 +1,4 @@
+pub mod Answer
+pub mod Referring
+pub mod Replies
+pub mod Tell

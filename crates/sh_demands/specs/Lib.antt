@@ -1,0 +1,4 @@
+pub mod Call
+pub mod Insertion
+pub mod Saying
+pub mod Shown

@@ -1,0 +1,20 @@
+use Rattle.user_data.proofs.Written.{wrote-told}
+use Rattle.octets.specs.Standard.{needs}
+use Rattle.user_data.proofs.put_told.Statement.{statement}
+use Rattle.user_data.proofs.put_told.Tie as tie
+
+pub put-told-spec : {M : Type 1} → statement M
+put-told-spec =
+    tie.close
+    (tie.spec
+    (λ c. search needs)
+    (λ c. search needs)
+    (λ c. search needs)
+    (λ c κs. search needs)
+    (λ c. search needs)
+    (λ c κs. search needs)
+    (λ c. search needs)
+    (λ c. search needs)
+    (λ c. search needs)
+    (λ c. search needs)
+    (λ c. (search needs, search (needs, wrote-told))))
