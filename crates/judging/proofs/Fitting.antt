@@ -123,3 +123,20 @@ module _ (list header : List ℕ) (fit : Fit header) (file m : ℕ) (h : m < cou
   fits-said eq e =
       rw (rises-is, here)
       (e ∙ rw eq (sym (and-assoc (soundRecord b (m + 1) (headerOf header) file) (follows a b (m + 1)) (leb (countOf header - (m + 1)) (above 128 (publicOf b))))))
+
+-- The header's numbers, by what is read of it.
+module _ (header : List ℕ) (fit : Fit header) (h : Header) (e : h ≡ headerOf header) where
+  pub count-few : h .count ≤ 4096
+  unfolding headerOf
+  count-few = rw e (fit .few)
+
+  pub networks-few : h .networks ≤ 8
+  unfolding headerOf
+  networks-few = rw e (fit .networks)
+
+  pub next-counted : (m : ℕ) → m < countOf header → m + 1 ≤ h .count
+  unfolding headerOf
+  next-counted m l = rw e (omega arith)
+
+pub before-whole : (list header a : List ℕ) (m : ℕ) → LineBefore list header a m → length a ≡ 512
+before-whole list header a m l = l .size

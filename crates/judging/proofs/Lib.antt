@@ -1,3 +1,3 @@
 pub mod Fitting
-pub mod Members
+pub mod Slots
 pub mod Passes

@@ -107,10 +107,10 @@ module _ (list header : List ℕ) (file : ℕ) where
   untitled e f = rw (← e, f)
 
   module _ (title : isTitled list ≡ true) (places : List ℕ) (s : Stood) (so : StoodSo list header file places s) where
-    pub wrong-two : (m : ℕ) {r : Checked} → m ≡ leading (agreesAt (tableSaid list header)) (s .records) 1 → m ≤ s .records
+    two-whole : (m : ℕ) {r : Checked} → m ≡ leading (agreesAt (tableSaid list header)) (s .records) 1 → m ≤ s .records
         → r ≡ verdictOf list (countOf header) m (s .end) → r ≡ firstWrong list header file
     unfolding firstWrong
-    wrong-two m e h f =
+    two-whole m e h f =
         let q : firstBad (holdsAt list header file) (countOf header) (countOf header) 1 ≡ outcomeOf (countOf header) m =
         two-passes (holdsAt list header file) (fitsAt list header file) (agreesAt (tableSaid list header)) holds-each (countOf header) (countOf header) 1
         ∙ rw (← so .records, ← e) in
@@ -126,8 +126,13 @@ module _ (list header : List ℕ) (file : ℕ) where
             let k : s .records ≡ countOf header = omega (arith, so .few) in
             rw (so .place, k, n)
 
-    pub wrong-one : {r : Checked} → s .setless ≡ true → r ≡ verdictOf list (countOf header) (s .records) (s .end) → r ≡ firstWrong list header file
-    wrong-one z f = wrong-two (s .records) (sym (setless-all (tableSaid list header) (s .records) (so .none .each z))) (omega arith) f
+    pub wrong-two : (count m : ℕ) {r : Checked} → count ≡ countOf header → m ≡ leading (agreesAt (tableSaid list header)) (s .records) 1 → m ≤ s .records
+        → r ≡ verdictOf list count m (s .end) → r ≡ firstWrong list header file
+    wrong-two count m c e h f = two-whole m e h (rw c at f)
+
+    pub wrong-one : (count : ℕ) {r : Checked} → count ≡ countOf header → s .setless ≡ true → r ≡ verdictOf list count (s .records) (s .end)
+        → r ≡ firstWrong list header file
+    wrong-one count c z f = wrong-two count (s .records) c (sym (setless-all (tableSaid list header) (s .records) (so .none .each z))) (omega arith) f
 
 -- The answer's parts.
 pub verdict-bad : (list : List ℕ) (count m end : ℕ) → m + 1 ≤ count → Bad (m + 1) ≡ verdictOf list count m end

@@ -57,7 +57,7 @@ fn find(
     slots: &[u16],
     k: usize,
 ) -> Found
-    requires { ⌜ Fit (now header) × (length (now a) ≡ 512) × (121 ≤ length (now list)) × (1 ≤ k) × (k ≤ countOf (now header))
+    requires { ⌜ Fit (now header) × (length (now a) ≡ 512) × (length (now b) ≡ 512) × (121 ≤ length (now list)) × (1 ≤ k) × (k ≤ countOf (now header))
         × Noted (now list) (now places) k × Remembers (tableSaid (now list) (now header)) (now slots) k × (now b ≡ saidAt (now list) (now header) k) ⌝ }
     ensures { λ r. ⌜ FoundSo (now (list .entry)) (now (header .entry)) (now (slots .entry)) k (now (a .exit)) r ⌝ }
 {
@@ -97,7 +97,7 @@ fn agrees_by(
     slots: &mut [u16],
     k: usize,
 ) -> bool
-    requires { ⌜ Fit (now header) × (length (now a) ≡ 512) × (121 ≤ length (now list)) × (1 ≤ k) × (k ≤ countOf (now header))
+    requires { ⌜ Fit (now header) × (length (now a) ≡ 512) × (length (now b) ≡ 512) × (121 ≤ length (now list)) × (1 ≤ k) × (k ≤ countOf (now header))
         × Noted (now list) (now places) k × Remembers (tableSaid (now list) (now header)) (now slots) k
         × Agreed (tableSaid (now list) (now header)) k × (now b ≡ saidAt (now list) (now header) k) ⌝ }
     ensures { λ r. ⌜ (r ≡ agreesAt (tableSaid (now (list .entry)) (now (header .entry))) k)

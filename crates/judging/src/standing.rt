@@ -55,7 +55,7 @@ pub struct Turn {
 }
 
 // The turn of record m + 1, whose line begins at a place.
-fn turn(
+fn judge(
     a: &[u8],
     b: &mut [u8],
     list: &[u8],
@@ -103,7 +103,7 @@ pub fn standing(
     let mut sets: u32 = 0;
     while m < count {
         saying::note(places, m, at);
-        let t = turn(a, b, list, header, file, at, m);
+        let t = judge(a, b, list, header, file, at, m);
         sets = sets | t.set;
         if t.fits {
             run::copy(a, b);

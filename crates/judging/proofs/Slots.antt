@@ -136,3 +136,6 @@ module _ (a b slots : List ℕ) (f : Found) (k : ℕ) {w : ℕ} (is : w ≡ getD
 
 pub slots-size : (t slots : List ℕ) (k : ℕ) → Remembers t slots k → length slots ≡ 4608
 slots-size t slots k m = m .size
+
+pub noted-next : (list places : List ℕ) (m n : ℕ) → m < n → Noted list places n → Noted list places (m + 1)
+noted-next list places m n h k = noted-less list places (m + 1) n (omega arith) k
