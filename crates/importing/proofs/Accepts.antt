@@ -119,6 +119,23 @@ module _ (list header : List ℕ) (fit : FitHeader header) where
         let s : serverOf (blockOf said (suc n)) ≡ r .server = ap (λ (q : Row). q .server) row-is in
         rw (p, q, s) (fits .fitting .public also fits .fitting .private also fits .fitting .server)
 
+  -- the first m lines
+  module _ (file m : ℕ) (few : m ≤ count) (each : (k : ℕ) → 1 ≤ k → k ≤ m → soundAt said (headerOf header) file k ≡ true) (title : isTitled list ≡ true) where
+    pub front : (n : ℕ) → n ≤ m → list ≡ (firstLine ++ linesOf said n) ++ drop (placeOf list n) list
+    unfolding placeOf linesOf isTitled
+    front zero h =
+        let e : take (length firstLine) list ≡ firstLine = same-eq (take (length firstLine) list) firstLine title in
+        rw (append-nil firstLine) (sym (take-append-drop (length firstLine) list) ∙ rw e)
+    front (suc n) h =
+        let l : lineOf (rowOf (blockOf said (suc n))) ++ drop (placeOf list (suc n)) list ≡ drop (placeOf list n) list =
+        sym (line-here file n (omega arith) (each (suc n) (omega arith) h)) in
+        front n (omega arith)
+        ∙ sym
+        (append-assoc firstLine (linesOf said n ++ lineOf (rowOf (blockOf said (suc n)))) (drop (placeOf list (suc n)) list)
+        ∙ ap (λ (x : List ℕ). firstLine ++ x) (append-assoc (linesOf said n) (lineOf (rowOf (blockOf said (suc n)))) (drop (placeOf list (suc n)) list))
+        ∙ sym (append-assoc firstLine (linesOf said n) (lineOf (rowOf (blockOf said (suc n))) ++ drop (placeOf list (suc n)) list))
+        ∙ ap (λ (x : List ℕ). (firstLine ++ linesOf said n) ++ x) l)
+
   -- all lines
   module _ (file : ℕ) (each : (k : ℕ) → 1 ≤ k → k ≤ count → soundAt said (headerOf header) file k ≡ true) (title : isTitled list ≡ true) where
     pub checked : checkTable said file ≡ Sound count
@@ -140,24 +157,9 @@ module _ (list header : List ℕ) (fit : FitHeader header) where
         pick zero a b = absurd (omega arith)
         pick (suc n) a b = names-here file n b (each (suc n) a b)
 
-    front : (n : ℕ) → n ≤ count → list ≡ (firstLine ++ linesOf said n) ++ drop (placeOf list n) list
-    unfolding placeOf linesOf isTitled
-    front zero h =
-        let e : take (length firstLine) list ≡ firstLine = same-eq (take (length firstLine) list) firstLine title in
-        rw (append-nil firstLine) (sym (take-append-drop (length firstLine) list) ∙ rw e)
-    front (suc n) h =
-        let l : lineOf (rowOf (blockOf said (suc n))) ++ drop (placeOf list (suc n)) list ≡ drop (placeOf list n) list =
-        sym (line-here file n h (each (suc n) (omega arith) h)) in
-        front n (omega arith)
-        ∙ sym
-        (append-assoc firstLine (linesOf said n ++ lineOf (rowOf (blockOf said (suc n)))) (drop (placeOf list (suc n)) list)
-        ∙ ap (λ (x : List ℕ). firstLine ++ x) (append-assoc (linesOf said n) (lineOf (rowOf (blockOf said (suc n)))) (drop (placeOf list (suc n)) list))
-        ∙ sym (append-assoc firstLine (linesOf said n) (lineOf (rowOf (blockOf said (suc n))) ++ drop (placeOf list (suc n)) list))
-        ∙ ap (λ (x : List ℕ). (firstLine ++ linesOf said n) ++ x) l)
-
     pub list-said : placeOf list count ≡ length list → listOf said ≡ list
     unfolding listOf
     list-said e =
         let d : drop (placeOf list count) list ≡ [] = drop-of-length-le list {i = placeOf list count} (omega arith) in
         let c : countOf (blockOf said 0) ≡ count = rw said-header in
-        rw c (sym (front count (omega arith) ∙ rw d (append-nil (firstLine ++ linesOf said count))))
+        rw c (sym (front file count (omega arith) each title count (omega arith) ∙ rw d (append-nil (firstLine ++ linesOf said count))))

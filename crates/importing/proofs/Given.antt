@@ -54,13 +54,13 @@ module _ (header : List ℕ) (file : ℕ) (t : List ℕ) (x : Exportable header 
   abbrev count : ℕ
   count = x .count
 
-  sound : SoundTable t count
+  pub sound : SoundTable t count
   sound = record { file = file; checked = x .checked }
 
-  tests : TableTests t file count
+  pub tests : TableTests t file count
   tests = table-says t file count (x .checked)
 
-  counted : countOf header ≡ count
+  pub counted : countOf header ≡ count
   unfolding headerOf
   counted = ap (λ (b : List ℕ). countOf b) (sym (x .header-block)) ∙ tests .counted
 
@@ -83,7 +83,7 @@ module _ (header : List ℕ) (file : ℕ) (t : List ℕ) (x : Exportable header 
       and-left (listable (publicOf (blockOf t k))) _ (and-left (listable (publicOf (blockOf t k)) && listable (privateOf (blockOf t k))) _ (names k a b))
 
   -- each record has a row that a line can have
-  fitting : (k : ℕ) → 1 ≤ k → k ≤ count → line.Fitting (rowOf (blockOf t k))
+  pub fitting : (k : ℕ) → 1 ≤ k → k ≤ count → line.Fitting (rowOf (blockOf t k))
   unfolding listableAt rowOf recordOf publicOf privateOf serverOf
   fitting k a b =
       let two = and-left (listable (publicOf (blockOf t k)) && listable (privateOf (blockOf t k))) (listable (serverOf (blockOf t k))) (names k a b) in
@@ -99,59 +99,65 @@ module _ (header : List ℕ) (file : ℕ) (t : List ℕ) (x : Exportable header 
         numbers = numbers-fit (blockOf t k) (block-bytes t (x .bytes) k);
       }
 
-  -- where each line begins, and what it says
-  here : (n : ℕ) → n < count → (rest : List ℕ) × (listOf t ≡ (firstLine ++ linesOf t n) ++ (lineOf (rowOf (blockOf t (suc n))) ++ rest))
-  unfolding linesOf
-  here n h =
-      let e : suc n + (count - suc n) ≡ count = omega arith in
-      let s : linesOf t count ≡ linesOf t (suc n) ++ more t (suc n) (count - suc n) = ap (linesOf t) (sym e) ∙ lines-split t (suc n) (count - suc n) in (
-        more t (suc n) (count - suc n),
-        list-is t count sound
-            ∙ ap (λ (l : List ℕ). firstLine ++ l) (s ∙ append-assoc (linesOf t n) (lineOf (rowOf (blockOf t (suc n)))) (more t (suc n) (count - suc n)))
-            ∙ sym (append-assoc firstLine (linesOf t n) (lineOf (rowOf (blockOf t (suc n))) ++ more t (suc n) (count - suc n))),
-      )
+  -- A list that begins with the first m lines of the table's: where each line begins, and what it says.
+  module _ (list rest : List ℕ) (m : ℕ) (most : m ≤ count) (begins : list ≡ (firstLine ++ linesOf t m) ++ rest) where
+    here : (n : ℕ) → n < m → (after : List ℕ) × (list ≡ (firstLine ++ linesOf t n) ++ (lineOf (rowOf (blockOf t (suc n))) ++ after))
+    unfolding linesOf
+    here n h =
+        let e : suc n + (m - suc n) ≡ m = omega arith in
+        let s : linesOf t m ≡ linesOf t (suc n) ++ more t (suc n) (m - suc n) = ap (linesOf t) (sym e) ∙ lines-split t (suc n) (m - suc n) in (
+          more t (suc n) (m - suc n) ++ rest,
+          begins ∙ rw s (simp append-assoc),
+        )
 
-  read-at : (n : ℕ) → n < count → (p : ℕ) → p ≡ length (firstLine ++ linesOf t n) → rowIn (drop p (listOf t)) ≡ some (rowOf (blockOf t (suc n)))
-  read-at n h p e =
-      let s = here n h in
-      let d : drop p (listOf t) ≡ lineOf (rowOf (blockOf t (suc n))) ++ s .0 =
-      ap (drop p) (s .1) ∙ drop-at (firstLine ++ linesOf t n) (lineOf (rowOf (blockOf t (suc n))) ++ s .0) p (sym e) in
-      rw d (line.read-written (rowOf (blockOf t (suc n))) (s .0) (fitting (suc n) (omega arith) (omega arith)))
+    read-at : (n : ℕ) → n < m → (p : ℕ) → p ≡ length (firstLine ++ linesOf t n) → rowIn (drop p list) ≡ some (rowOf (blockOf t (suc n)))
+    read-at n h p e =
+        let s = here n h in
+        let d : drop p list ≡ lineOf (rowOf (blockOf t (suc n))) ++ s .0 =
+        ap (drop p) (s .1) ∙ drop-at (firstLine ++ linesOf t n) (lineOf (rowOf (blockOf t (suc n))) ++ s .0) p (sym e) in
+        rw d (line.read-written (rowOf (blockOf t (suc n))) (s .0) (fitting (suc n) (omega arith) (omega arith)))
 
-  place : (n : ℕ) → n ≤ count → placeOf (listOf t) n ≡ length (firstLine ++ linesOf t n)
-  unfolding placeOf linesOf
-  place zero h = rw (append-nil firstLine)
-  place (suc n) h =
-      let e : placeOf (listOf t) n ≡ length (firstLine ++ linesOf t n) = place n (omega arith) in
-      rw (read-at n (omega arith) (placeOf (listOf t) n) e, e)
-      (omega (
-        arith,
-        length-append firstLine (linesOf t n),
-        length-append (linesOf t n) (lineOf (rowOf (blockOf t (suc n)))),
-        length-append firstLine (linesOf t n ++ lineOf (rowOf (blockOf t (suc n)))),
-      ))
+    pub place : (n : ℕ) → n ≤ m → placeOf list n ≡ length (firstLine ++ linesOf t n)
+    unfolding placeOf linesOf
+    place zero h = rw (append-nil firstLine)
+    place (suc n) h =
+        let e : placeOf list n ≡ length (firstLine ++ linesOf t n) = place n (omega arith) in
+        rw (read-at n (omega arith) (placeOf list n) e, e)
+        (omega (
+          arith,
+          length-append firstLine (linesOf t n),
+          length-append (linesOf t n) (lineOf (rowOf (blockOf t (suc n)))),
+          length-append firstLine (linesOf t n ++ lineOf (rowOf (blockOf t (suc n)))),
+        ))
 
-  said-at : (k : ℕ) → k ≤ count → saidAt (listOf t) header k ≡ blockOf t k
-  unfolding saidAt headerOf
-  said-at zero h = sym (x .header-block)
-  said-at (suc n) h =
-      rw (read-at n (omega arith) (placeOf (listOf t) n) (place n (omega arith)))
-      (block-said (blockOf t (suc n)) (suc n) (headerOf header) file (block-whole (suc n) h) (block-bytes t (x .bytes) (suc n)) (x .edition)
-      (record-sound (suc n) (omega arith) h))
+    pub said-at : (k : ℕ) → k ≤ m → saidAt list header k ≡ blockOf t k
+    unfolding saidAt headerOf
+    said-at zero h = sym (x .header-block)
+    said-at (suc n) h =
+        rw (read-at n (omega arith) (placeOf list n) (place n (omega arith)))
+        (block-said (blockOf t (suc n)) (suc n) (headerOf header) file (block-whole (suc n) (omega arith)) (block-bytes t (x .bytes) (suc n)) (x .edition)
+        (record-sound (suc n) (omega arith) (omega arith)))
+
+  -- its own list does
+  own : listOf t ≡ (firstLine ++ linesOf t count) ++ []
+  own = list-is t count sound ∙ sym (append-nil (firstLine ++ linesOf t count))
+
+  own-place : (n : ℕ) → n ≤ count → placeOf (listOf t) n ≡ length (firstLine ++ linesOf t n)
+  own-place = place (listOf t) [] count (omega arith) own
 
   pub said : tableSaid (listOf t) header ≡ t
   unfolding tableSaid
   said =
       let e : suc count ≡ count + 1 = omega arith in
       rw (counted, e)
-      (table-same (saidAt (listOf t) header) (blockOf t) (count + 1) (λ k h. said-at k (omega arith)) ∙ sym (table-is t (count + 1) (tests .size)))
+      (table-same (saidAt (listOf t) header) (blockOf t) (count + 1) (λ k h. said-at (listOf t) [] count (omega arith) own k (omega arith)) ∙ sym (table-is t (count + 1) (tests .size)))
 
   short : (k : ℕ) → 1 ≤ k → k ≤ count → length (publicAt t k) ≤ 128
   unfolding publicAt publicOf recordOf
   short k a b = simp length-take (omega (arith, limits k a b .public))
 
   -- names enough are left above each
-  above-rest : (m k : ℕ) → 1 ≤ k → k + m ≡ count → m ≤ above 128 (publicAt t k)
+  pub above-rest : (m k : ℕ) → 1 ≤ k → k + m ≡ count → m ≤ above 128 (publicAt t k)
   above-rest zero k a e = omega arith
   above-rest (suc m) k a e =
       let r : m ≤ above 128 (publicAt t (suc k)) = above-rest m (suc k) (omega arith) (omega arith) in
@@ -179,5 +185,5 @@ module _ (header : List ℕ) (file : ℕ) (t : List ℕ) (x : Exportable header 
   whole =
       let f : firstBad (holdsAt (listOf t) header file) count count 1 ≡ Sound count =
       all-good (holdsAt (listOf t) header file) count count 1 (λ j a b. holds j a (omega arith)) in
-      let e : placeOf (listOf t) count ≡ length (listOf t) = place count (omega arith) ∙ ap length (sym (list-is t count sound)) in
+      let e : placeOf (listOf t) count ≡ length (listOf t) = own-place count (omega arith) ∙ ap length (sym (list-is t count sound)) in
       rw (titled, counted, f, eq-eqb (placeOf (listOf t) count) (length (listOf t)) e)
