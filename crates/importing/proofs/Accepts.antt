@@ -68,7 +68,7 @@ module _ (list header : List ℕ) (fit : FitHeader header) where
 
   -- a line that says a sound record is one
   module _ (file n : ℕ) (h : n < count) (good : soundAt said (headerOf header) file (suc n) ≡ true) where
-    record-good : soundRecord (blockOf said (suc n)) (suc n) (headerOf header) file ≡ true
+    pub record-good : soundRecord (blockOf said (suc n)) (suc n) (headerOf header) file ≡ true
     unfolding soundAt standsAt
     record-good =
         and-left (soundRecord (blockOf said (suc n)) (suc n) (headerOf header) file) (risesAt said (suc n))

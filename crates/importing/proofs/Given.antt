@@ -39,11 +39,11 @@ pub record Exportable (header : List ℕ) (file : ℕ) (t : List ℕ) : Type 0 w
   pub listed : firstUnlisted t count ≡ Sound count
 
 -- The lines behind the first n.
-unfoldable more : List ℕ → ℕ → ℕ → List ℕ
+unfoldable pub more : List ℕ → ℕ → ℕ → List ℕ
 more t n zero = []
 more t n (suc m) = more t n m ++ lineOf (rowOf (blockOf t (suc (n + m))))
 
-lines-split : (t : List ℕ) (n m : ℕ) → linesOf t (n + m) ≡ linesOf t n ++ more t n m
+pub lines-split : (t : List ℕ) (n m : ℕ) → linesOf t (n + m) ≡ linesOf t n ++ more t n m
 unfolding linesOf more
 lines-split t n zero = let e : n + 0 ≡ n = omega arith in rw e (sym (append-nil (linesOf t n)))
 lines-split t n (suc m) =

@@ -46,7 +46,7 @@ module _ (list header : List ℕ) (file : ℕ) (bytes : Bytes header) (fit : fit
   abbrev said : List ℕ
   said = tableSaid list header
 
-  said-at-bytes : (k : ℕ) → Octets (saidAt list header k)
+  pub said-at-bytes : (k : ℕ) → Octets (saidAt list header k)
   unfolding saidAt
   said-at-bytes zero = record { each = bytes }
   said-at-bytes (suc n) = go (rowIn (drop (placeOf list n) list)) refl

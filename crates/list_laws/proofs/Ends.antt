@@ -1,6 +1,6 @@
 -- Lines that end in CR LF and hold no other CR, laid end to end: a beginning that is cut short of a line's end has none of that line's.
 use Rattle.octets.specs.Standard.{ℕ, zero, suc, _+_, _-_, _<_, _≤_, Bool, true, false, _&&_, not, cond, true≢false, _≡_, refl, sym, _∙_, ap, arith}
-use Rattle.octets.specs.Standard.{eqb, ltb, ltb-true, ltb-false, eqb-true, eqb-false, List, [], _∷_, _++_, append-assoc, append-nil, length, length-append, length-take, take, getD, take-append-le}
+use Rattle.octets.specs.Standard.{eqb, ltb, ltb-true, ltb-false, eqb-true, eqb-false, List, [], _∷_, _++_, append-assoc, append-nil, length, length-append, length-take, take, getD, take-append-le, take-nil}
 use Rattle.octets.proofs.All.{and-left, and-right}
 use Rattle.list_laws.specs.Ends.{lineEnds}
 
@@ -99,11 +99,7 @@ module _ (f : ℕ → List ℕ) where
 pub ends-more : (s : List ℕ) (m n : ℕ) → m ≤ n → lineEnds (take m s) ≤ lineEnds (take n s)
 unfolding lineEnds
 ends-more s zero n h = omega arith
-ends-more [] (suc m) n h = rw (take-none n) (omega arith)
-  where
-    take-none : (n : ℕ) → take n [] ≡ []
-    take-none zero = refl
-    take-none (suc n) = refl
+ends-more [] (suc m) n h = rw (take-nil n) (omega arith)
 ends-more (x ∷ s) (suc m) zero h = absurd (omega arith)
 ends-more (x ∷ s) (suc m) (suc n) h = go (eqb x 13) (first m n (omega arith)) (ends-more s m n (omega arith))
   where

@@ -7,7 +7,7 @@ use Rattle.octets.specs.Run.{zeroBetween}
 use Rattle.octets.specs.Sum.{sumWords}
 use Rattle.octets.proofs.Chains.{_also_}
 use Rattle.octets.proofs.Runs.{at-zero}
-use Rattle.record.specs.Fields.{publicOf, privateOf, serverOf, setOf}
+use Rattle.record.specs.Fields.{publicOf, privateOf, serverOf, profileStart, profileSize, setOf}
 use Rattle.record.specs.RecordBlock.{recordOf, soundRecord}
 use Rattle.record.specs.declared.header.Header.{Header}
 use Rattle.record.proofs.Tests.{RecordTests, record-holds, Limits, limits-hold, Zeros, rest-holds}
@@ -69,9 +69,15 @@ module _ (issue k : ℕ) (name : List ℕ) (listed : listable name ≡ true) (le
   abbrev last : List ℕ
   last = wordBytes issue ++ replicate 100 0
 
+  abbrev behind : List ℕ
+  behind = padded 128 (97 ∷ []) ++ padded 96 []
+
+  abbrev rest : List ℕ
+  rest = restBytes (replicate 18 0) ++ last
+
   raw-is : raw ≡ front ++ (name ++ (gap ++ (97 ∷ (replicate 263 0 ++ last))))
   unfolding unsealed fresh namesBytes restBytes padded wordsBytes
-  raw-is = ap (λ (y : List ℕ). front ++ y) (simp append-assoc)
+  raw-is = ap (λ (y : List ℕ). front ++ y) (append-assoc (padded 128 name) behind rest ∙ append-assoc name gap (behind ++ rest))
 
   byte : (i : ℕ) → i < 508 → getD b i 0 ≡ getD raw i 0
   unfolding blockFrom
@@ -159,6 +165,14 @@ module _ (issue k : ℕ) (name : List ℕ) (listed : listable name ≡ true) (le
   fresh-set = number-is 17
 
   module _ (h : Header) (file : ℕ) (edition : h .edition ≡ 2) (same : h .issue ≡ issue) where
+    size-zero : profileSize b ≡ 0
+    unfolding numbersOf
+    size-zero = number-is 16
+
+    start-zero : profileStart b ≡ 0
+    unfolding numbersOf
+    start-zero = number-is 15
+
     limits : Limits (recordOf b)
     unfolding recordOf
     limits =
@@ -172,11 +186,62 @@ module _ (issue k : ℕ) (name : List ℕ) (listed : listable name ≡ true) (le
           private-some = omega (arith, front-byte 14 (omega arith));
           private = omega (arith, front-byte 14 (omega arith));
           server = omega (arith, front-byte 15 (omega arith));
-          size = omega (arith, profile-size);
+          size = omega (arith, size-zero);
+        }
+
+    zeros-all : Zeros b (recordOf b)
+    unfolding recordOf
+    zeros-all =
+        let p : getD b 13 0 ≡ length name = front-byte 13 (omega arith) in
+        let q : getD b 14 0 ≡ 1 = front-byte 14 (omega arith) in
+        record {
+          blank = at-zero b 2 4 (λ i x y. pair i x y);
+          public = at-zero b (16 + getD b 13 0) 144 (λ i x y. name-zero i (omega arith) y);
+          private = at-zero b (144 + getD b 14 0) 272 (λ i x y. middle-zero i (omega arith) (omega arith));
+          server = at-zero b (272 + getD b 15 0) 368 (λ i x y. middle-zero i (omega arith) (omega arith));
+          mandatory = at-zero b (368 + 4 * getD b 11 0) 384 (λ i x y. middle-zero i (omega arith) (omega arith));
+          optional = at-zero b (384 + 4 * getD b 12 0) 400 (λ i x y. middle-zero i (omega arith) (omega arith));
+          last = at-zero b 412 508 (λ i x y. end-zero i x y);
         }
       where
-        profile-size : be16At b 404 ≡ 0
-        profile-size = sized
+        pair : (i : ℕ) → 2 ≤ i → i < 4 → getD b i 0 ≡ 0
+        pair zero x y = absurd (omega arith)
+        pair (suc zero) x y = absurd (omega arith)
+        pair (suc (suc zero)) x y = front-byte 2 (omega arith)
+        pair (suc (suc (suc zero))) x y = front-byte 3 (omega arith)
+        pair (suc (suc (suc (suc i)))) x y = absurd (omega arith)
 
-    zero-run : (from to : ℕ) → ((i : ℕ) → from ≤ i → i < to → getD b i 0 ≡ 0) → zeroBetween b from to ≡ true
-    zero-run from to z = at-zero b from to z
+    pub fresh-sound : soundRecord b k h file ≡ true
+    unfolding blockFrom recordOf
+    fresh-sound =
+        record-holds b k h file
+        (record {
+          sum = sealed-zero raw (raw-length issue k (fresh name) fits);
+          head =
+              eq-eqb (getD b 0 0) 2 (front-byte 0 (omega arith)) also eq-eqb (getD b 1 0) (h .edition) (front-byte 1 (omega arith) ∙ sym edition)
+              also eq-eqb (be32At b 4) k number-k
+              also eq-eqb (be32At b 408) (h .issue) (issue-is ∙ sym same);
+          set = rw (eq-eqb (setOf b) 0 fresh-set);
+          limits = limits-hold (recordOf b) limits;
+          server = rw (front-byte 15 (omega arith), front-byte 8 (omega arith), front-byte 9 (omega arith));
+          roaming = rw (front-byte 10 (omega arith)) (lt-ltb 0 (2 ^ h .networks) (power (h .networks)));
+          profile = rw (start-zero, size-zero) (le-leb 0 file (omega arith));
+          rest = rest-holds b (recordOf b) zeros-all;
+        })
+      where
+        power : (n : ℕ) → 0 < 2 ^ n
+        power zero = omega arith
+        power (suc n) = omega (arith, power n)
+
+  -- its names
+  pub fresh-public : publicOf b ≡ name
+  unfolding rowOf fresh
+  fresh-public = ap (λ (q : Row). q .public) row-is
+
+  pub fresh-private : privateOf b ≡ 97 ∷ []
+  unfolding rowOf fresh
+  fresh-private = ap (λ (q : Row). q .private) row-is
+
+  pub fresh-server : serverOf b ≡ []
+  unfolding rowOf fresh
+  fresh-server = ap (λ (q : Row). q .server) row-is

@@ -1,6 +1,6 @@
-pub mod Ends
-pub mod Lines
-pub mod Fresh
 pub mod Continued
-pub mod FirstLine
+pub mod Ends
 pub mod Exactly
+pub mod FirstLine
+pub mod Fresh
+pub mod Lines
