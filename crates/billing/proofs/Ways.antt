@@ -1,14 +1,14 @@
 -- What each way through an import leaves.
 use Rattle.octets.specs.Standard.{ℕ, _+_, _*_, _<_, _≤_, Bool, true, false, _&&_, cond, _≡_, refl, sym, _∙_, ap, arith, List, length, getD}
-use Rattle.octets.specs.Standard.{eqb, leb, eq-eqb, ne-eqb, lt-ltb, le-ltb}
+use Rattle.octets.specs.Standard.{eqb, eq-eqb, ne-eqb, lt-ltb, le-ltb}
 use Rattle.octets.specs.Run.{Wrote}
-use Rattle.record.specs.Fields.{countOf, editionOf}
+use Rattle.record.specs.Fields.{countOf}
 use Rattle.record.specs.HeaderBlock.{soundHeader}
 use Rattle.blocks.specs.Blocks.{firstBad}
 use Rattle.blocks.specs.declared.Checked.{Checked}
 use Rattle.blocks.specs.declared.Checked.the-variants.{Sound, Bad}
 use Rattle.blocks.proofs.First.{FirstNot, bad-says, bad-sound, good-count}
-use Rattle.listing.specs.Export.{AfterList, came, refusing, writing, exported}
+use Rattle.listing.specs.Export.{AfterList, came, writing, exported}
 use Rattle.listing.specs.declared.Listed.{Listed}
 use Rattle.listing.specs.declared.Listed.the-variants.{Written, Refused}
 use Rattle.importing.specs.Said.{placeOf, tableSaid, holdsAt, isTitled, overRecords, firstWrong}

@@ -150,7 +150,8 @@ module _ (header : List ℕ) (file : ℕ) (t : List ℕ) (x : Exportable header 
   said =
       let e : suc count ≡ count + 1 = omega arith in
       rw (counted, e)
-      (table-same (saidAt (listOf t) header) (blockOf t) (count + 1) (λ k h. said-at (listOf t) [] count (omega arith) own k (omega arith)) ∙ sym (table-is t (count + 1) (tests .size)))
+      (table-same (saidAt (listOf t) header) (blockOf t) (count + 1) (λ k h. said-at (listOf t) [] count (omega arith) own k (omega arith))
+      ∙ sym (table-is t (count + 1) (tests .size)))
 
   short : (k : ℕ) → 1 ≤ k → k ≤ count → length (publicAt t k) ≤ 128
   unfolding publicAt publicOf recordOf

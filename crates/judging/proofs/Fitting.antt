@@ -1,10 +1,10 @@
 -- A line's record by itself and behind the one before: what is tested of two blocks is what is asked of the table that the list says.
-use Rattle.octets.specs.Standard.{ℕ, zero, suc, _+_, _-_, _<_, _≤_, Bool, true, false, _&&_, cond, and-assoc, _≡_, refl, sym, _∙_, ap, arith, add-one}
-use Rattle.octets.specs.Standard.{leb, le-leb, lt-leb, leb-true, leb-false, eqb-true, List, [], _∷_, length, length-take, drop, replicate, Option, none, some}
+use Rattle.octets.specs.Standard.{ℕ, suc, _+_, _-_, _<_, _≤_, Bool, true, false, _&&_, cond, and-assoc, _≡_, refl, sym, _∙_, ap, arith, add-one}
+use Rattle.octets.specs.Standard.{leb, le-leb, lt-leb, leb-false, List, length, length-take, drop, Option, none, some}
 use Rattle.octets.specs.Name.{orderOf}
 use Rattle.octets.specs.declared.name.Order.{Order}
 use Rattle.octets.specs.declared.name.Order.the-variants.{Less, Equal, Greater}
-use Rattle.record.specs.Fields.{countOf, networksOf, issueOf, publicOf}
+use Rattle.record.specs.Fields.{countOf, issueOf, publicOf}
 use Rattle.record.specs.HeaderBlock.{headerOf}
 use Rattle.record.specs.RecordBlock.{recordOf, soundRecord}
 use Rattle.record.specs.declared.header.Header.{Header}
@@ -122,7 +122,9 @@ module _ (list header : List ℕ) (fit : Fit header) (file m : ℕ) (h : m < cou
   unfolding fitsBehind fitsAt standsAt enoughAt publicAt headerOf
   fits-said eq e =
       rw (rises-is, here)
-      (e ∙ rw eq (sym (and-assoc (soundRecord b (m + 1) (headerOf header) file) (follows a b (m + 1)) (leb (countOf header - (m + 1)) (above 128 (publicOf b))))))
+      (e
+      ∙ rw eq
+      (sym (and-assoc (soundRecord b (m + 1) (headerOf header) file) (follows a b (m + 1)) (leb (countOf header - (m + 1)) (above 128 (publicOf b))))))
 
 -- The header's numbers, by what is read of it.
 module _ (header : List ℕ) (fit : Fit header) (h : Header) (e : h ≡ headerOf header) where

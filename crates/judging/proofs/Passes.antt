@@ -1,27 +1,27 @@
 -- The first pass turn by turn, and that the two passes find the first wrong line.
-use Rattle.octets.specs.Standard.{ℕ, zero, suc, _+_, _-_, _<_, _≤_, Bool, true, false, _&&_, cond, _≡_, refl, sym, _∙_, ap, arith, add-one, bitOr}
+use Rattle.octets.specs.Standard.{ℕ, _+_, _-_, _<_, _≤_, Bool, true, false, _&&_, cond, _≡_, refl, sym, _∙_, ap, arith, bitOr}
 use Rattle.octets.specs.Standard.{eqb, leb, le-leb, lt-leb, leb-true, leb-false, eq-eqb, ne-eqb, min, List, length, length-take, take, take-all, drop}
 use Rattle.octets.specs.Standard.{drop-of-length-le, append-nil}
 use Rattle.octets.specs.Name.{same}
 use Rattle.octets.specs.Run.{over, Wrote}
 use Rattle.octets.proofs.All.{all-none}
 use Rattle.octets.proofs.Names.{same-eq}
-use Rattle.record.specs.Fields.{countOf, setOf}
+use Rattle.record.specs.Fields.{countOf}
 use Rattle.record.specs.HeaderBlock.{headerOf}
-use Rattle.blocks.specs.Blocks.{blockOf, firstBad}
+use Rattle.blocks.specs.Blocks.{firstBad}
 use Rattle.blocks.specs.declared.Checked.{Checked}
 use Rattle.blocks.specs.declared.Checked.the-variants.{Sound, Bad}
 use Rattle.table.specs.Check.{standsAt, agreesAt, soundAt}
-use Rattle.table.specs.Leading.{leading, setless, Setless, outcomeOf}
+use Rattle.table.specs.Leading.{leading, setless, outcomeOf}
 use Rattle.table.proofs.Leading.{leading-all, leading-more, leading-stop, leading-end, setless-read, setless-more, setless-left, setless-end, setless-all}
 use Rattle.table.proofs.Leading.{two-passes}
 use Rattle.listing.specs.ListOf.{firstLine}
 use Rattle.listing.proofs.Lists.{first-length}
-use Rattle.importing.specs.Said.{placeOf, saidAt, tableSaid, enoughAt, holdsAt, isTitled, overRecords, firstWrong}
+use Rattle.importing.specs.Said.{tableSaid, enoughAt, holdsAt, isTitled, overRecords, firstWrong}
 use Rattle.saying.specs.Noted.{noted, Noted}
 use Rattle.saying.proofs.Reading.{place-first, noted-none, noted-less, noted-more, said-whole}
 use Rattle.judging.specs.Fit.{Fit}
-use Rattle.judging.specs.Passes.{fitsAt, LineBefore, Turned, Standing, StoodSo, verdictOf}
+use Rattle.judging.specs.Passes.{fitsAt, Turned, Standing, StoodSo, verdictOf}
 use Rattle.judging.specs.declared.standing.Stood.{Stood}
 use Rattle.judging.specs.declared.standing.Turn.{Turn}
 use Rattle.judging.proofs.Fitting.{fit-here}

@@ -1,12 +1,12 @@
 -- The second pass: a block that is remembered is read again out of the list, and the laws of the table's own check serve the table that the list says.
-use Rattle.octets.specs.Standard.{ℕ, _+_, _-_, _*_, _/_, _%_, _<_, _≤_, Bool, true, false, _&&_, _||_, cond, true≢false, _≡_, refl, sym, _∙_, ap, arith}
+use Rattle.octets.specs.Standard.{ℕ, _+_, _-_, _*_, _/_, _%_, _<_, _≤_, Bool, true, false, cond, true≢false, _≡_, refl, sym, _∙_, arith}
 use Rattle.octets.specs.Standard.{List, eqb, eqb-true, eqb-false, eq-eqb, ne-eqb, length, getD, set}
 use Rattle.record.specs.Fields.{countOf, setOf}
 use Rattle.record.specs.Sets.{sameSet, agreeing}
 use Rattle.blocks.specs.Blocks.{blockOf}
 use Rattle.table.specs.Check.{agreesAt}
 use Rattle.table.specs.Hash.{hashOf}
-use Rattle.table.specs.Remembered.{tagOf, stopsAt, Word, Remembers, SlotsPassed, SlotFound, Agreed}
+use Rattle.table.specs.Remembered.{tagOf, stopsAt, Word, Remembers, SlotsPassed, Agreed}
 use Rattle.table.proofs.Remembered as kept
 use Rattle.importing.specs.Said.{saidAt, tableSaid}
 use Rattle.saying.specs.Noted.{Noted}
@@ -112,7 +112,8 @@ module _ (list header : List ℕ) (fit : Fit header) (slots : List ℕ) (k : ℕ
           go : (y : Bool) → eqb (getD slots (f .at) 0) 0 ≡ y
               → Remembers (tableSaid list header) (cond y (set slots (f .at) (tagOf (f .hash) * 8192 + k)) slots) (k + 1)
           go true g =
-              kept.empty-kept (tableSaid list header) slots k m (f .hash) (f .at) (so .found) (so .own) (so .slot) refl (eqb-true _ _ g) h (omega (arith, fit .few))
+              kept.empty-kept (tableSaid list header) slots k m (f .hash) (f .at) (so .found) (so .own) (so .slot) refl (eqb-true _ _ g) h
+              (omega (arith, fit .few))
               refl
           go false g = kept.full-kept (tableSaid list header) slots k m (f .hash) (f .at) (so .found) (so .own) (so .slot) refl (eqb-false _ _ g)
 

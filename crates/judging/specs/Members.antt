@@ -4,7 +4,7 @@ use mathlib.Core.Bool.{Bool, true, _&&_, _||_, cond}
 use mathlib.Core.Path.{_≡_}
 use mathlib.Core.List.{List}
 use lib.Dec.{eqb}
-use lib.ListN.{length, getD, set}
+use lib.ListN.{getD, set}
 use Rattle.record.specs.Sets.{sameSet, agreeing}
 use Rattle.blocks.specs.Blocks.{blockOf}
 use Rattle.table.specs.Hash.{hashOf}

@@ -11,7 +11,6 @@ ghost use mathlib.Core.Path.{_≡_};
 ghost use mathlib.Core.Bool.{true};
 ghost use Prim.Native.Nat.{_≤_, _<_};
 ghost use lib.ListN.{length};
-ghost use Rattle.octets.specs.Run.{Mask};
 ghost use Rattle.record.specs.Fields.{publicOf, countOf};
 ghost use Rattle.quoting.specs.Quoted.{listable};
 ghost use Rattle.importing.specs.Said.{placeOf};

@@ -1,38 +1,34 @@
 -- A list whose first records could stand in an export: one that begins with them. Each record that follows has the name right above that before it.
-use Rattle.octets.specs.Standard.{ℕ, zero, suc, _+_, _-_, _*_, _<_, _≤_, Bool, true, false, _&&_, cond, _≡_, refl, sym, _∙_, ap, arith}
-use Rattle.octets.specs.Standard.{leb, le-leb, lt-leb, leb-true, leb-false, List, [], _∷_, _++_, append-assoc, append-nil, length, length-take, take, drop}
+use Rattle.octets.specs.Standard.{ℕ, zero, suc, _+_, _-_, _*_, _<_, _≤_, Bool, true, false, _&&_, cond, _≡_, refl, sym, _∙_, arith}
+use Rattle.octets.specs.Standard.{leb, le-leb, lt-leb, leb-true, leb-false, List, [], _++_, length, length-take, drop}
 use Rattle.octets.specs.Name.{orderOf}
 use Rattle.octets.specs.declared.name.Order.the-variants.{Less}
 use Rattle.octets.proofs.All.{and-left, and-right}
 use Rattle.octets.proofs.Chains.{_also_}
 use Rattle.octets.proofs.Numbers.{Bytes, word-lt}
-use Rattle.record.specs.Fields.{countOf, issueOf, editionOf, publicOf, privateOf, serverOf, setOf}
-use Rattle.record.specs.HeaderBlock.{headerOf, soundHeader}
+use Rattle.record.specs.Fields.{countOf, issueOf, publicOf, privateOf}
+use Rattle.record.specs.HeaderBlock.{headerOf}
 use Rattle.record.specs.RecordBlock.{recordOf, soundRecord}
-use Rattle.record.proofs.Tests.{HeaderTests, header-says, RecordTests, record-says, Limits, limits-say}
+use Rattle.record.proofs.Tests.{header-says, record-says, Limits, limits-say}
 use Rattle.blocks.specs.Blocks.{blockOf, tableOf}
-use Rattle.blocks.specs.declared.Checked.the-variants.{Sound}
 use Rattle.blocks.proofs.Blocks.{table-length, table-block}
 use Rattle.blocks.proofs.First.{all-good}
-use Rattle.table.specs.Check.{checkTable, isLess, soundAt, standsAt, risesAt, agreesAt}
+use Rattle.table.specs.Check.{isLess, soundAt, standsAt, risesAt, agreesAt}
 use Rattle.table.specs.Named.{publicAt}
 use Rattle.table.proofs.Areas.{sound-same}
 use Rattle.table.proofs.Leading.{setless-agrees}
 use Rattle.table.proofs.Sound.{table-holds}
 use Rattle.quoting.specs.Quoted.{listable}
-use Rattle.rows.specs.Row.{Row, rowOf, lineOf}
-use Rattle.rows.specs.RowIn.{rowIn}
-use Rattle.rows.specs.Block.{blockFrom, blockSaid}
+use Rattle.rows.specs.Block.{blockFrom}
 use Rattle.rows.proofs.Lines as line
 use Rattle.rows.proofs.Blocks.{said-length}
 use Rattle.rows.proofs.Octets.{Octets, append-bytes, said-bytes}
-use Rattle.listing.specs.ListOf.{firstLine, linesOf, listOf, listableAt, firstUnlisted}
+use Rattle.listing.specs.ListOf.{firstLine, linesOf, listableAt, firstUnlisted}
 use Rattle.importing.specs.Above.{stringsOf, above}
 use Rattle.importing.specs.Said.{placeOf, saidAt, tableSaid, enoughAt, holdsAt, isTitled}
 use Rattle.importing.specs.Import.{fitHeader}
 use Rattle.importing.proofs.Accepts as accepts
 use Rattle.importing.proofs.Accepts.{FitHeader}
-use Rattle.importing.proofs.Given as given
 use Rattle.importing.proofs.Given.{Exportable}
 use Rattle.importing.proofs.Importing.{said-at-bytes}
 use Rattle.importing.proofs.Next.{next, next-above, next-less, next-listed, next-length}
@@ -82,9 +78,13 @@ module _ (list header : List ℕ) (file m : ℕ) (bytes : Bytes header) (fits : 
       let l : Limits (recordOf (blockOf said (suc n))) = limits-say _ (record-says _ _ _ _ r .limits) in
       let names = accepts.names-here list header fit file n (omega arith) s in
       record {
-        listed = and-left (listable (publicOf (blockOf said (suc n)))) _ (and-left (listable (publicOf (blockOf said (suc n))) && listable (privateOf (blockOf said (suc n)))) _ names);
+        listed =
+            and-left (listable (publicOf (blockOf said (suc n)))) _
+            (and-left (listable (publicOf (blockOf said (suc n))) && listable (privateOf (blockOf said (suc n)))) _ names);
         size = simp length-take (omega (arith, l .public));
-        enough = leb-true (count - suc n) (above 128 (publicAt said (suc n))) (and-right (soundAt said (headerOf header) file (suc n)) _ (e (suc n) (omega arith) (omega arith)));
+        enough =
+            leb-true (count - suc n) (above 128 (publicAt said (suc n)))
+            (and-right (soundAt said (headerOf header) file (suc n)) _ (e (suc n) (omega arith) (omega arith)));
       }
 
   -- the names from there on

@@ -1,6 +1,6 @@
 -- Lines that end in CR LF and hold no other CR, laid end to end: a beginning that is cut short of a line's end has none of that line's.
 use Rattle.octets.specs.Standard.{ℕ, zero, suc, _+_, _-_, _<_, _≤_, Bool, true, false, _&&_, not, cond, true≢false, _≡_, refl, sym, _∙_, ap, arith}
-use Rattle.octets.specs.Standard.{eqb, ltb, ltb-true, ltb-false, eqb-true, eqb-false, List, [], _∷_, _++_, append-assoc, append-nil, length, length-append, length-take, take, getD, take-append-le, take-nil}
+use Rattle.octets.specs.Standard.{eqb, ltb, ltb-true, ltb-false, List, [], _∷_, _++_, append-assoc, length, length-append, take, getD, take-append-le, take-nil}
 use Rattle.octets.proofs.All.{and-left, and-right}
 use Rattle.list_laws.specs.Ends.{lineEnds}
 

@@ -1,7 +1,7 @@
 -- "Import of an exported list, with the same header block and profile file, gives back the table's bytes. Import accepts exactly what export can write, and
 -- leaves the output area untouched otherwise."
-use Rattle.octets.specs.Standard.{ℕ, _+_, _*_, _<_, _≤_, Bool, true, false, cond, _≡_, refl, sym, _∙_, ap, arith, eqb, ltb, eqb-true, eq-eqb, ltb-false}
-use Rattle.octets.specs.Standard.{le-ltb, List, _++_, length, take, take-at, drop}
+use Rattle.octets.specs.Standard.{ℕ, _+_, _≤_, Bool, true, false, cond, _≡_, refl, sym, _∙_, ap, arith, eqb, ltb, eqb-true, eq-eqb, ltb-false}
+use Rattle.octets.specs.Standard.{le-ltb, List, length, take, take-at, drop}
 use Rattle.octets.specs.Run.{over}
 use Rattle.octets.proofs.Numbers.{Bytes}
 use Rattle.record.specs.Fields.{editionOf}
@@ -12,12 +12,10 @@ use Rattle.blocks.proofs.First.{good-count}
 use Rattle.table.specs.Check.{checkTable}
 use Rattle.listing.specs.ListOf.{listOf, listableAt, firstUnlisted}
 use Rattle.listing.specs.Export.{AfterList, came, refusing, writing, exportPast, exportSound, exportChecked, exported}
-use Rattle.listing.specs.declared.Listed.{Listed}
 use Rattle.listing.specs.declared.Listed.the-variants.{Written, Refused}
 use Rattle.importing.specs.Said.{tableSaid, firstWrong}
 use Rattle.importing.specs.Import.{fitHeader, importPast, imported}
 use Rattle.importing.proofs.Given.{Exportable}
-use Rattle.importing.proofs.Importing as importing
 use Rattle.importing.proofs.Importing.{import-gives, accepts-only}
 
 never : {A : Type 0} (number value bytes : ℕ) → Refused number value ≡ Written bytes → A
@@ -131,6 +129,22 @@ accepted-export list header file bytes a = fits (fitHeader header) refl (a .writ
         → AnExport list header file
     fits false f g = never 5 0 (a .bytes) g
     fits true f g = past f (firstWrong list header file) refl g
+
+-- Export of an exportable table; and import then export gives the list.
+pub export-gives : (header : List ℕ) (file : ℕ) (t : List ℕ) (x : Exportable header file t) (area : List ℕ) → exported t file area ≡ writing area (listOf t)
+unfolding exported exportChecked exportSound exportPast
+export-gives header file t x area =
+    rw (x .checked, x .header-block, eq-eqb (editionOf header) 2 (x .edition), x .listed)
+
+pub gives-list : (list header : List ℕ) (file : ℕ) (area : List ℕ) (n : ℕ) (y : List ℕ) → Bytes header → imported list header file area ≡ came (Written n) y
+    → (other : List ℕ) → exported (take n y) file other ≡ writing other list
+gives-list list header file area n y bytes e other =
+    let a : AnExport list header file =
+    accepted-export list header file bytes (record { area = area; bytes = n; written = ap (λ (o : AfterList). o .said) e }) in
+    let w : WroteSo area (a .table) n y =
+    writing-says area (a .table) n y
+    (sym (import-gives header file (a .table) (a .exportable) area) ∙ ap (λ (l : List ℕ). imported l header file area) (a .list-is) ∙ e) in
+    rw (w .bytes) (export-gives header file (a .table) (a .exportable) other ∙ ap (writing other) (a .list-is))
 
 -- "Import accepts exactly what export can write"
 pub record Exactly (list header : List ℕ) (file : ℕ) : Type 0 where

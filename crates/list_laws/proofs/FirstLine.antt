@@ -1,9 +1,9 @@
 -- "14, with the number of the first line, present or missing, that no export could hold there": of the beginnings that the list shares with exports under
 -- the header block and beside the profile file, the longest holds as many line ends as lines stand before the one that is named.
-use Rattle.octets.specs.Standard.{ℕ, zero, suc, _+_, _-_, _*_, _<_, _≤_, Bool, true, false, _&&_, cond, true≢false, _≡_, refl, sym, _∙_, ap, arith}
-use Rattle.octets.specs.Standard.{eqb, leb, ltb, le-leb, eqb-false, ltb-true, ltb-false, List, [], _++_, append-assoc, append-nil, length, length-append}
-use Rattle.octets.specs.Standard.{length-take, take, drop, take-all, take-at, take-take, take-append-le, take-append-drop}
-use Rattle.octets.specs.Name.{same}
+use Rattle.octets.specs.Standard.{ℕ, suc, _+_, _-_, _<_, _≤_, Bool, true, false, cond, true≢false, _≡_, refl, sym, _∙_, ap, arith}
+use Rattle.octets.specs.Standard.{eqb, ltb, le-leb, ltb-true, ltb-false, List, _++_, append-assoc, length, length-append}
+use Rattle.octets.specs.Standard.{take, drop, take-all, take-at, take-take, take-append-le, take-append-drop}
+use Rattle.octets.specs.Run.{over}
 use Rattle.octets.proofs.Chains.{_also_}
 use Rattle.octets.proofs.Names.{same-yes}
 use Rattle.octets.proofs.Numbers.{Bytes}
@@ -18,9 +18,11 @@ use Rattle.table.specs.Named.{publicAt}
 use Rattle.table.proofs.Areas.{sound-same}
 use Rattle.listing.specs.ListOf.{firstLine, linesOf, listOf}
 use Rattle.listing.proofs.Lists.{list-is}
+use Rattle.listing.specs.Export.{came, refusing, writing}
+use Rattle.listing.specs.declared.Listed.the-variants.{Written, Refused}
 use Rattle.importing.specs.Above.{above}
-use Rattle.importing.specs.Said.{placeOf, saidAt, tableSaid, enoughAt, holdsAt, isTitled, overRecords, firstWrong}
-use Rattle.importing.specs.Import.{fitHeader}
+use Rattle.importing.specs.Said.{placeOf, tableSaid, enoughAt, holdsAt, isTitled, overRecords, firstWrong}
+use Rattle.importing.specs.Import.{fitHeader, importPast, imported}
 use Rattle.importing.proofs.Accepts as accepts
 use Rattle.importing.proofs.Accepts.{FitHeader}
 use Rattle.importing.proofs.Given as given
@@ -43,6 +45,12 @@ pub record SharedEnds (list header : List ℕ) (file k : ℕ) : Type 0 where
   pub place : ℕ
   pub shared : Shared list header file place
   pub ends : lineEnds (take place list) ≡ k
+
+-- k lines stand before the one that no export could hold there: some shared beginning holds k line ends, none holds more, and so the longest holds k
+pub record NamedLine (list header : List ℕ) (file k : ℕ) : Type 0 where
+  pub some : SharedEnds list header file k
+  pub most : (n : ℕ) → Shared list header file n → lineEnds (take n list) ≤ k
+  pub longest : (n : ℕ) → Shared list header file n → ((m : ℕ) → Shared list header file m → m ≤ n) → lineEnds (take n list) ≡ k
 
 -- a list's lines are those of its first j records and those behind them
 lines-front : (header : List ℕ) (file : ℕ) (t : List ℕ) (x : Exportable header file t) (j : ℕ) → j ≤ x .count
@@ -72,7 +80,11 @@ ahead-shared header file t x m few list rest begun =
         exportable = x;
         in-list = omega (arith, ap length begun, length-append (firstLine ++ linesOf t m) rest);
         in-export = omega (arith, ap length own, length-append (firstLine ++ linesOf t m) (more t m (x .count - m)));
-        alike = taken ∙ sym (ap (take (length (firstLine ++ linesOf t m))) own ∙ take-at (firstLine ++ linesOf t m) (more t m (x .count - m)) (length (firstLine ++ linesOf t m)) refl);
+        alike =
+            taken
+            ∙ sym
+            (ap (take (length (firstLine ++ linesOf t m))) own
+            ∙ take-at (firstLine ++ linesOf t m) (more t m (x .count - m)) (length (firstLine ++ linesOf t m)) refl);
       };
       ends = ap lineEnds taken ∙ lines-end header file t x m few;
     }
@@ -145,7 +157,8 @@ module _ (list header : List ℕ) (file : ℕ) (bytes : Bytes header) (fits : fi
     unfolding isTitled linesOf
     titled h =
         same-yes (take (length firstLine) list) firstLine
-        (front (length firstLine) h ∙ ap (take (length firstLine)) (list-is (s .table) (s .exportable .count) (given.sound header file (s .table) (s .exportable)))
+        (front (length firstLine) h
+        ∙ ap (take (length firstLine)) (list-is (s .table) (s .exportable .count) (given.sound header file (s .table) (s .exportable)))
         ∙ take-at firstLine (linesOf (s .table) (s .exportable .count)) (length firstLine) refl)
 
     -- a record whose line is shared could stand there
@@ -176,7 +189,12 @@ module _ (list header : List ℕ) (file : ℕ) (bytes : Bytes header) (fits : fi
           where
             go : (y : Bool) → ltb n (length firstLine) ≡ y → lineEnds (take n list) ≤ k
             go true g =
-                omega (arith, ends-are, cut header file (s .table) (s .exportable) 0 n (omega arith) (omega (arith, ltb-true n (length firstLine) g, length-append firstLine (linesOf (s .table) 0))))
+                omega (
+                  arith,
+                  ends-are,
+                  cut header file (s .table) (s .exportable) 0 n (omega arith)
+                      (omega (arith, ltb-true n (length firstLine) g, length-append firstLine (linesOf (s .table) 0))),
+                )
             go false g = absurd (true≢false (sym (titled (ltb-false n (length firstLine) g)) ∙ f))
 
         one : isTitled list ≡ true → FirstNot (holdsAt list header file) count 1 k → lineEnds (take n list) ≤ k
@@ -184,7 +202,12 @@ module _ (list header : List ℕ) (file : ℕ) (bytes : Bytes header) (fits : fi
           where
             go : (y : Bool) → ltb n (length (firstLine ++ linesOf (s .table) k)) ≡ y → lineEnds (take n list) ≤ k
             go true g =
-                omega (arith, ends-are, cut header file (s .table) (s .exportable) k n (omega (arith, first .to, counted)) (ltb-true n (length (firstLine ++ linesOf (s .table) k)) g))
+                omega (
+                  arith,
+                  ends-are,
+                  cut header file (s .table) (s .exportable) k n (omega (arith, first .to, counted))
+                      (ltb-true n (length (firstLine ++ linesOf (s .table) k)) g),
+                )
             go false g =
                 absurd
                 (true≢false (sym (holds k (first .from) (omega (arith, first .to)) (ltb-false n (length (firstLine ++ linesOf (s .table) k)) g)) ∙ first .here))
@@ -244,9 +267,44 @@ module _ (list header : List ℕ) (file : ℕ) (bytes : Bytes header) (fits : fi
       past : isTitled list ≡ true → ((j : ℕ) → 1 ≤ j → j ≤ count → holdsAt list header file j ≡ true) → k ≡ count + 1 → SharedEnds list header file k
       past f each q = let z : k ≡ suc count = omega arith in rw z (lines-shared count (omega arith) each f)
 
-  -- The longest holds exactly so many.
-  pub first-line : (k n : ℕ) → firstWrong list header file ≡ Bad k → Shared list header file n
-      → ((m : ℕ) → Shared list header file m → m ≤ n) → lineEnds (take n list) ≡ k
-  first-line k n e s longest =
-      let o : SharedEnds list header file k = ends-some k e in
-      omega (arith, o .ends, ends-most n s k e, ends-more list (o .place) n (longest (o .place) (o .shared)))
+  -- So the line that is named is the one behind the longest.
+  pub first-line : (k : ℕ) → firstWrong list header file ≡ Bad k → NamedLine list header file k
+  first-line k e =
+      record {
+        some = ends-some k e;
+        most = λ n s. ends-most n s k e;
+        longest = λ n s far.
+            let o : SharedEnds list header file k = ends-some k e in
+            omega (arith, o .ends, ends-most n s k e, ends-more list (o .place) n (far (o .place) (o .shared)));
+      }
+
+-- Refusal 14 of an import, with the line's number.
+pub refused-line : (list header : List ℕ) (file : ℕ) (area : List ℕ) (line : ℕ) → Bytes header → imported list header file area .said ≡ Refused 14 line
+    → (k : ℕ) × (line ≡ k + 1) × NamedLine list header file k
+unfolding imported writing
+refused-line list header file area line bytes e = fits (fitHeader header) refl e
+  where
+    number : (a b v w : ℕ) → Refused a v ≡ Refused b w → a ≡ b
+    number a b v w g = cc
+
+    value : (a b v w : ℕ) → Refused a v ≡ Refused b w → w ≡ v
+    value a b v w g = cc
+
+    never : (n : ℕ) → Written n ≡ Refused 14 line → (k : ℕ) × (line ≡ k + 1) × NamedLine list header file k
+    never n g = let z : _≡_ {A = ℕ} 0 1 = cc in absurd (omega arith)
+
+    short : (w : List ℕ) (x : Bool) → cond x (refusing area 15 0) (came (Written (length w)) (over w area)) .said ≡ Refused 14 line
+        → (k : ℕ) × (line ≡ k + 1) × NamedLine list header file k
+    short w true g = absurd (omega (arith, number 15 14 0 line g))
+    short w false g = never (length w) g
+
+    past : fitHeader header ≡ true → (c : Checked) → firstWrong list header file ≡ c → importPast list header area c .said ≡ Refused 14 line
+        → (k : ℕ) × (line ≡ k + 1) × NamedLine list header file k
+    past f (Sound n) w g = short (tableSaid list header) (ltb (length area) (length (tableSaid list header))) g
+    past f (Bad k) w g = (k, value 14 14 (k + 1) line g, first-line list header file bytes f k w)
+
+    fits : (x : Bool) → fitHeader header ≡ x
+        → cond x (importPast list header area (firstWrong list header file)) (refusing area 5 0) .said ≡ Refused 14 line
+        → (k : ℕ) × (line ≡ k + 1) × NamedLine list header file k
+    fits false f g = absurd (omega (arith, number 5 14 0 line g))
+    fits true f g = past f (firstWrong list header file) refl g

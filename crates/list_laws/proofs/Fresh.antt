@@ -1,21 +1,17 @@
 -- A record that may always follow: a public identity, private identity `a`, no server, every number 0.
-use Rattle.octets.specs.Standard.{ℕ, zero, suc, _+_, _-_, _*_, _/_, _%_, _^_, _<_, _≤_, Bool, true, false, _&&_, _||_, not, cond, _≡_, refl, sym, _∙_, ap, arith}
-use Rattle.octets.specs.Standard.{eqb, leb, ltb, eq-eqb, le-leb, lt-ltb, List, [], _∷_, _++_, append-assoc, length, length-append, length-replicate}
-use Rattle.octets.specs.Standard.{take, drop, getD, replicate, getD-append-add, pow-mono}
-use Rattle.octets.specs.Number.{four, be16At, be32At}
-use Rattle.octets.specs.Run.{zeroBetween}
-use Rattle.octets.specs.Sum.{sumWords}
+use Rattle.octets.specs.Standard.{ℕ, zero, suc, _+_, _-_, _*_, _^_, _<_, _≤_, true, _≡_, refl, sym, _∙_, ap, arith}
+use Rattle.octets.specs.Standard.{eq-eqb, le-leb, lt-ltb, List, [], _∷_, _++_, append-assoc, length, length-append, length-replicate}
+use Rattle.octets.specs.Standard.{getD, replicate, getD-append-add}
+use Rattle.octets.specs.Number.{be32At}
 use Rattle.octets.proofs.Chains.{_also_}
 use Rattle.octets.proofs.Runs.{at-zero}
 use Rattle.record.specs.Fields.{publicOf, privateOf, serverOf, profileStart, profileSize, setOf}
 use Rattle.record.specs.RecordBlock.{recordOf, soundRecord}
 use Rattle.record.specs.declared.header.Header.{Header}
-use Rattle.record.proofs.Tests.{RecordTests, record-holds, Limits, limits-hold, Zeros, rest-holds}
-use Rattle.blocks.specs.Sealed.{sealed}
+use Rattle.record.proofs.Tests.{record-holds, Limits, limits-hold, Zeros, rest-holds}
 use Rattle.blocks.proofs.Sealed.{sealed-zero, seal-before}
 use Rattle.quoting.specs.Quoted.{listable}
 use Rattle.rows.specs.Row.{Row, rowOf, numbersOf}
-use Rattle.rows.specs.RowIn.{most}
 use Rattle.rows.specs.Block.{padded, wordBytes, wordsBytes, frontBytes, namesBytes, restBytes, unsealed, blockFrom}
 use Rattle.rows.proofs.Lines as line
 use Rattle.rows.proofs.Blocks.{raw-length, row-said}

@@ -1,13 +1,13 @@
 -- The lines of an export: CR stands nowhere in them but at their end.
-use Rattle.octets.specs.Standard.{ℕ, zero, suc, _+_, _%_, _/_, _<_, _≤_, Bool, true, false, _&&_, not, cond, _≡_, refl, sym, _∙_, ap, arith}
-use Rattle.octets.specs.Standard.{eqb, eq-eqb, ne-eqb, List, [], _∷_, _++_, append-assoc, append-nil, length, take}
-use Rattle.octets.proofs.All.{and-left, and-right}
+use Rattle.octets.specs.Standard.{ℕ, zero, suc, _+_, _%_, _/_, _<_, _≤_, Bool, true, false, cond, _≡_, refl, sym, _∙_, ap, arith}
+use Rattle.octets.specs.Standard.{eqb, ne-eqb, List, [], _∷_, _++_, append-assoc, append-nil, length, take}
+use Rattle.octets.proofs.All.{and-right}
 use Rattle.blocks.specs.Blocks.{blockOf}
 use Rattle.decimals.specs.Decimal.{digitsOf, decimal, digitCount}
 use Rattle.quoting.specs.Quoted.{listable, isListed, listedByte, doubled, quoted}
 use Rattle.rows.specs.Row.{Row, rowOf, numbersLine, lineOf}
 use Rattle.rows.proofs.Lines as line
-use Rattle.listing.specs.ListOf.{firstLine, linesOf, listOf}
+use Rattle.listing.specs.ListOf.{firstLine, linesOf}
 use Rattle.importing.proofs.Falling.{least}
 use Rattle.importing.proofs.Given as given
 use Rattle.importing.proofs.Given.{Exportable}

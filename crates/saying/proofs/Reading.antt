@@ -1,6 +1,6 @@
 -- A line read where it begins: the block that it says, and where the next one begins; and one read again.
 use Rattle.octets.specs.Standard.{ℕ, zero, suc, _+_, _-_, _*_, _/_, _%_, _<_, _≤_, Bool, true, false, cond, _≡_, refl, sym, _∙_, ap, arith, add-one}
-use Rattle.octets.specs.Standard.{eqb, ltb, eqb-true, eqb-false, eq-eqb, ne-eqb, ltb-true, ltb-false, List, [], _++_, append-nil, length, length-append}
+use Rattle.octets.specs.Standard.{eqb, eqb-true, eqb-false, eq-eqb, ne-eqb, List, _++_, append-nil, length, length-append}
 use Rattle.octets.specs.Standard.{length-drop, length-set, length-replicate, take, drop, getD, set, replicate, getD-set-same, getD-set-other, drop-of-length-le}
 use Rattle.octets.specs.Standard.{Option, none, some}
 use Rattle.octets.specs.Run.{over, Wrote}
@@ -8,12 +8,11 @@ use Rattle.record.specs.Fields.{issueOf}
 use Rattle.quoting.specs.Quoted.{quoted}
 use Rattle.rows.specs.Row.{Row, lineOf}
 use Rattle.rows.specs.RowIn.{rowIn, rowSize}
-use Rattle.rows.specs.Block.{blockFrom, blockSaid}
+use Rattle.rows.specs.Block.{blockSaid}
 use Rattle.rows.proofs.Lines as line
 use Rattle.rows.proofs.Blocks.{said-length}
 use Rattle.parsing.specs.Parsed.{blockOver}
 use Rattle.parsing.proofs.Fields.{part-end}
-use Rattle.listing.specs.ListOf.{firstLine}
 use Rattle.listing.proofs.Lists.{first-length}
 use Rattle.importing.specs.Said.{placeOf, saidAt}
 use Rattle.saying.specs.Noted.{noted, Noted}
@@ -66,7 +65,8 @@ module _ (list header : List ℕ) (at n : ℕ) (p : at ≡ placeOf list n) {size
         go none g w = absurd (w refl)
         go (some r) g w = here ∙ rw g
 
-  pub said-none : (o : List ℕ) {c x : List ℕ} → size ≡ 0 → length o ≡ 512 → length c ≡ length o → Wrote (replicate 512 0) c x 512 → x ≡ saidAt list header (n + 1)
+  pub said-none : (o : List ℕ) {c x : List ℕ} → size ≡ 0 → length o ≡ 512 → length c ≡ length o → Wrote (replicate 512 0) c x 512
+      → x ≡ saidAt list header (n + 1)
   unfolding saidAt
   said-none o {x = x} z l m w =
       let q : rowSize (rowIn (drop at list)) ≡ 0 = sym size-is ∙ z in
@@ -129,7 +129,8 @@ noted-more list places n at e p h k = rw e (go (eqb (n % 64) 0) refl)
 pub again-place : (list places : List ℕ) (k i : ℕ) {at : ℕ} → Noted list places k → i ≡ (k - 1) / 64 → 1 ≤ k → at ≡ getD places i 0 → at ≡ placeOf list (64 * i)
 again-place list places k i n e h f = f ∙ n .each i (omega arith)
 
-pub again-within : (list places : List ℕ) (k : ℕ) {at : ℕ} → Noted list places k → 1 ≤ k → at ≡ getD places ((k - 1) / 64) 0 → 121 ≤ length list → at ≤ length list
+pub again-within : (list places : List ℕ) (k : ℕ) {at : ℕ} → Noted list places k → 1 ≤ k → at ≡ getD places ((k - 1) / 64) 0 → 121 ≤ length list
+    → at ≤ length list
 again-within list places k n h f l = rw (again-place list places k ((k - 1) / 64) n refl h f) (place-within list (64 * ((k - 1) / 64)) l)
 
 -- the block holds the last line that was read
@@ -142,7 +143,8 @@ last-none list header out n = record { said = λ h. absurd (omega arith) }
 pub last-more : (list header out : List ℕ) (first n : ℕ) → out ≡ saidAt list header (n + 1) → LastRead list header out first (n + 1)
 last-more list header out first n e = record { said = λ h. e }
 
-pub last-end : (list header out : List ℕ) (i n k : ℕ) → LastRead list header out (64 * i) n → i ≡ (k - 1) / 64 → 1 ≤ k → n ≤ k → k ≤ n → out ≡ saidAt list header k
+pub last-end : (list header out : List ℕ) (i n k : ℕ) → LastRead list header out (64 * i) n → i ≡ (k - 1) / 64 → 1 ≤ k → n ≤ k → k ≤ n
+    → out ≡ saidAt list header k
 last-end list header out i n k l e h a b = let q : n ≡ k = omega arith in rw (← q) (l .said (omega arith))
 
 -- every block that is said is whole

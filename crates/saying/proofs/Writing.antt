@@ -1,8 +1,8 @@
 -- The table that a list says, written: the header block, and the records behind it.
-use Rattle.octets.specs.Standard.{ℕ, zero, suc, _+_, _-_, _*_, _<_, _≤_, _≡_, refl, sym, _∙_, ap, arith, add-one}
-use Rattle.octets.specs.Standard.{List, [], _++_, append-assoc, append-nil, length, length-append, length-take, length-drop, midOf, putMid}
+use Rattle.octets.specs.Standard.{ℕ, zero, suc, _+_, _-_, _*_, _≤_, _≡_, refl, sym, _∙_, ap, arith, add-one}
+use Rattle.octets.specs.Standard.{List, _++_, append-assoc, append-nil, length, length-append, midOf, putMid}
 use Rattle.octets.specs.Run.{over, Wrote}
-use Rattle.octets.proofs.Writes.{then, lent, back, named}
+use Rattle.octets.proofs.Writes.{then, named}
 use Rattle.record.specs.Fields.{countOf}
 use Rattle.blocks.specs.Blocks.{tableOf}
 use Rattle.importing.specs.Said.{saidAt, tableSaid}

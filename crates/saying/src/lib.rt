@@ -71,7 +71,8 @@ fn put_records(out: &mut [u8], list: &[u8], count: usize, header: &[u8])
 
 // Writes the table that a list says.
 pub fn put_table(out: &mut [u8], list: &[u8], count: usize, header: &[u8])
-    requires { ⌜ (length (now header) ≡ 512) × (count ≡ countOf (now header)) × (count ≤ 4096) × (512 * (count + 1) ≤ length (now out)) × (121 ≤ length (now list)) ⌝ }
+    requires { ⌜ (length (now header) ≡ 512) × (count ≡ countOf (now header)) × (count ≤ 4096) × (512 * (count + 1) ≤ length (now out))
+        × (121 ≤ length (now list)) ⌝ }
     ensures { λ _. ⌜ Wrote (tableSaid (now (list .entry)) (now (header .entry))) (now (out .entry)) (now (out .exit)) (512 * (count + 1)) ⌝ }
 {
     run::copy(out, header);

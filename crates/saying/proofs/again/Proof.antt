@@ -1,4 +1,4 @@
-use Rattle.octets.specs.Standard.{_+_, _-_, _*_, _≤_, _≡_, length, needs}
+use Rattle.octets.specs.Standard.{_-_, _≤_, _≡_, length, needs}
 use Rattle.importing.specs.Said.{placeOf}
 use Rattle.saying.proofs.Reading.{LastRead, again-place, again-within, last-none, last-more, last-end}
 use Rattle.saying.proofs.again.Statement.{statement}

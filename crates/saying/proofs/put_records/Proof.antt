@@ -1,4 +1,4 @@
-use Rattle.octets.specs.Standard.{_+_, _-_, _*_, _≤_, _≡_, length, needs}
+use Rattle.octets.specs.Standard.{_-_, _*_, _≤_, _≡_, length, needs}
 use Rattle.octets.specs.Run.{Wrote}
 use Rattle.importing.specs.Said.{placeOf}
 use Rattle.saying.specs.Records.{recordsSaid}

@@ -11,7 +11,8 @@ use Rattle.judging.proofs.members.agreeing.Statement.{statement}
 use Rattle.judging.proofs.members.agreeing.Tie as tie
 
 abbrev Inv-loop : tie.InvT-loop
-Inv-loop list header places n a₀ b₀ slots₀ m₀ at₀ a b slots m at = (m ≤ n) × (leading (agreesAt (tableSaid list header)) n 1 ≡ m + leading (agreesAt (tableSaid list header)) (n - m) (m + 1))
+Inv-loop list header places n a₀ b₀ slots₀ m₀ at₀ a b slots m at =
+    (m ≤ n) × (leading (agreesAt (tableSaid list header)) n 1 ≡ m + leading (agreesAt (tableSaid list header)) (n - m) (m + 1))
     × Remembers (tableSaid list header) slots (m + 1) × Agreed (tableSaid list header) (m + 1) × (at ≡ placeOf list m) × (at ≤ length list)
     × (length a ≡ 512) × (length b ≡ 512)
 
@@ -24,12 +25,32 @@ agreeing-spec =
     (tie.spec
     Inv-loop
     μ-loop
-    (λ c. (search needs, search (needs, leading-all), search (needs, remember-none), search (needs, agreed-none), search (needs, place-first), search needs, search needs, search needs))
+    (λ c. (
+      search needs,
+      search (needs, leading-all),
+      search (needs, remember-none),
+      search (needs, agreed-none),
+      search (needs, place-first),
+      search needs,
+      search needs,
+      search needs,
+    ))
     (λ c κs. search needs)
     (λ c. search needs)
     (λ c. search needs)
     (λ c. search needs)
-    (λ c κs. (search needs, search needs, search needs, search needs, search needs, search needs, search (needs, noted-next), search needs, search needs, search needs))
+    (λ c κs. (
+      search needs,
+      search needs,
+      search needs,
+      search needs,
+      search needs,
+      search needs,
+      search (needs, noted-next),
+      search needs,
+      search needs,
+      search needs,
+    ))
     (λ c. search needs)
     (λ c. search needs)
     (λ c. (search needs, search (needs, leading-more), search needs, search (needs, agreed-more), search needs, search needs, search needs, search needs))

@@ -10,7 +10,15 @@ judge-spec =
     (λ c κs. search needs)
     (λ c κs. search needs)
     (λ c. search needs)
-    (λ c κs. (search (needs, before-whole), search needs, search (needs, count-few), search (needs, networks-few), search needs, search (needs, next-counted), search (needs, said-listed)))
+    (λ c κs. (
+      search (needs, before-whole),
+      search needs,
+      search (needs, count-few),
+      search (needs, networks-few),
+      search needs,
+      search (needs, next-counted),
+      search (needs, said-listed),
+    ))
     (λ c κs. search needs)
     (λ c. search needs)
     (λ c. record { said = search needs; place = search needs; within = search needs; fits = search (needs, fits-said); set = search needs }))

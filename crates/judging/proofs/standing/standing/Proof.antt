@@ -26,11 +26,27 @@ standing-spec =
     (λ c. search needs)
     (λ c. search needs)
     (λ c. search needs)
-    (λ c. (standing-more _ _ (search needs) _ _ _ _ _ _ (c .before .before .before .before .before .before .before .before .before .before .before .before .before .before .before .before .before .before .loop .inv .0) (search needs) (c .before .before .before .before .before .before .before .before .before .before .before .before .before .before .before .note .ensures) (c .before .before .before .before .before .before .before .before .before .before .judge .ensures) (c .before .before .before .before .before .before .if1 .taken) (c .before .before .before .copy .ensures), search needs))
+    (λ c. (
+      standing-more _ _ (search needs) _ _ _ _ _ _
+          (c .before .before .before .before .before .before .before .before .before .before .before .before
+          .before .before .before .before .before .before .loop .inv .0)
+          (search needs)
+          (c .before .before .before .before .before .before .before .before .before .before .before .before .before .before .before .note .ensures)
+          (c .before .before .before .before .before .before .before .before .before .before .judge .ensures)
+          (c .before .before .before .before .before .before .if1 .taken)
+          (c .before .before .before .copy .ensures),
+      search needs,
+    ))
     (λ c. search needs)
     (λ c. search needs)
     (λ c. search needs)
-    (λ c. stood-here _ _ (search needs) _ _ _ _ _ _ (c .before .before .before .before .before .before .before .before .before .before .before .before .loop .inv .0) (search needs) (c .before .before .before .before .before .before .before .before .before .note .ensures) (c .before .before .before .before .judge .ensures) (c .if1 .left))
+    (λ c.
+    stood-here _ _ (search needs) _ _ _ _ _ _
+    (c .before .before .before .before .before .before .before .before .before .before .before .before .loop .inv .0)
+    (search needs)
+    (c .before .before .before .before .before .before .before .before .before .note .ensures)
+    (c .before .before .before .before .judge .ensures)
+    (c .if1 .left))
     (λ c. search needs)
     (λ c. search needs)
     (λ c. search needs)
