@@ -196,8 +196,8 @@ singleList t = firstLine ++ singleLines t (countOf (blockOf t 0))
 
 -- where the true export writes its list, this one writes that
 instead : Listed → AfterList → AfterList → AfterList
-instead (Written n) yes other = yes
-instead (Refused number value) yes other = other
+instead (Written n) here other = here
+instead (Refused number value) here other = other
 
 singly : Exporter
 singly t p a = leaving (instead (exported t (length p) a .said) (writing a (singleList t)) (exported t (length p) a))
