@@ -14,7 +14,8 @@
  *
  * Two libraries in one daemon. A daemon that serves both interfaces links both archives, in any order, as `pkg-config --libs ndushavire_sh` has it: no
  * symbol is in both, and neither needs the other. By the application in a request's header it knows which of the two calls is meant, as
- * ndushavire_sh_meant says: 16777217 is for ndushavire_sh_decide, everything else for ndushavire_decide. Each answers the other's requests with B3001.
+ * ndushavire_sh_meant says: 16777217 is for ndushavire_sh_decide, everything else for ndushavire_decide. Each answers the other's requests with B3001, unless
+ * their header has a fault that goes before it, and alters nothing.
  *
  * Versions. Both libraries and both headers are of one version, NDUSHAVIRE_VERSION. ndushavire_version says that of the first archive; the second one has
  * no such call, so put in both together.
@@ -30,26 +31,20 @@ extern "C" {
 #endif
 
 #define NDUSHAVIRE_SH_APPLICATION 16777217     /* Sh, in a message's header and for the daemon's Capabilities-Exchange */
-#define NDUSHAVIRE_SH_USER_DATA 306            /* the command of a User-Data-Request */
+#define NDUSHAVIRE_SH_USER_DATA_REQUEST 306    /* its command */
 #define NDUSHAVIRE_SH_STATE 11                 /* a Data-Reference (703): IMSUserState, the registration state */
 #define NDUSHAVIRE_SH_SERVER_NAME 12           /* another: SCSCFName, if a name is stored; every other one gets X5100 */
 
-/* The registration state that is told, the number in IMSUserState. A line that is registered and pending besides is told as registered. */
+/* The registration state that is told, the number in IMSUserState. */
 #define NDUSHAVIRE_SH_NOT_REGISTERED 0         /* state 0, not pending */
-#define NDUSHAVIRE_SH_REGISTERED 1             /* state 1 */
-#define NDUSHAVIRE_SH_UNREGISTERED_SERVICES 2  /* state 2: not registered, and a call server is kept for it */
+#define NDUSHAVIRE_SH_REGISTERED 1             /* state 1, pending or not */
+#define NDUSHAVIRE_SH_UNREGISTERED 2           /* state 2: a call server holds the line, which is not registered */
 #define NDUSHAVIRE_SH_AUTHENTICATION_PENDING 3 /* state 0, pending */
 
 /* Answers one User-Data-Request and alters nothing but the answer. The word's value is the answer's length, and its place says which AVP of the request
  * is at fault, as with ndushavire_decide; the buffer's bytes past the answer stay as they were.
- * The word's number is 0; or, tried in this order, with value 0 unless it is said, and nothing written:
- * 12 PEER is neither NDUSHAVIRE_RFC_3588 nor NDUSHAVIRE_RFC_6733;
- * 1 the answer buffer is under NDUSHAVIRE_ANSWER_ROOM;
- * 2 the request is under NDUSHAVIRE_REQUEST_MIN or over NDUSHAVIRE_REQUEST_MAX;
- * 3 its header's length is not its own, or no multiple of 4;
- * 4 the R bit is clear;
- * 5 the table is unsound beside the profile file, and the value is the first bad block. The table may lie in a longer area, as with ndushavire_check.
- * No vectors are lent, and no request is refused by 6. Of the profile file only its length counts, for 5. */
+ * The word's number is 0; or one of the refusals 12, 1, 2, 3, 4 and 5 of ndushavire_decide, tried in this order, each given as it is there, with nothing
+ * written. No vectors are lent, and no request is refused by 6. Of the profile file only its length counts, for 5. */
 uint64_t ndushavire_sh_decide(const uint8_t *request, size_t request_len, const uint8_t *table, size_t table_len,
                               const uint8_t *profile, size_t profile_len, uint8_t *answer, size_t answer_len, uint32_t peer);
 

@@ -5,9 +5,9 @@ Both are the independent program's: it makes the cases and says their outcomes. 
 one that shows it; of each result one, and then more: a refusal with what it returns besides; a command with its result; of a SAR past the
 reading rules also its type, and where it succeeds or meets a wrong state also keep, the state, whether it names many identities and whether
 it is about a set; of a MAR that succeeds the state, whether it is about a set and whether the record changes; of a UAR whether it is about
-a set; of a report how it ends and what it counts; of all the edition of the table or area, and that of the base standard. After them stand the
-requests of real software in captured/, each over the table and the vectors that their heads describe. Nothing here is random: a second run
-writes the same bytes."""
+a set; of a UDR whether it asks for state, name or another, and of a success the state and whether a name is stored; of a report how it ends and what
+it counts; of all the edition of the table or area, and that of the base standard. After them stand the requests of real software in captured/, each over
+the table and the vectors that their heads describe. Nothing here is random: a second run writes the same bytes."""
 import collections, pathlib, struct, sys
 
 import streams
@@ -16,7 +16,7 @@ from streams import answer, avps, made, outcomes, run
 MOST = 930_000  # bytes of cases
 CX = 10415
 RULES = tuple(('B', n) for n in (5001, 5004, 5014, 3009, 5011, 3008, 3001, 3007))
-KNOWN = {(n, 0) for n in (263, 260, 277, 264, 296, 293, 283, 1, 284, 282)} | {(n, CX) for n in (601, 600, 623, 602, 614, 624, 607, 612, 628)}
+KNOWN = {(n, 0) for n in (263, 260, 277, 264, 296, 293, 283, 1, 284, 282)} | {(n, CX) for n in (601, 600, 623, 602, 614, 624, 607, 612, 628, 700, 703)}
 EFFECTS = ('B', 2001), ('X', 2004), ('X', 5007)
 
 
@@ -40,15 +40,8 @@ def edition(case):
     return said if said in (b'\1', b'\2') else b'', case.entry in streams.NUMBERS and case.numbers[0] == 6733
 
 
-def row(case, outcome):
-    """What a case comes to, and what its answer carries."""
-    if case.entry == 4:
-        return month(case, outcome)
-    if outcome.word >> 48 or case.entry != 2:
-        several = case.entry != 2 or outcome.word >> 48 >= 5  # a bad block has many causes
-        return (case.entry, outcome.word, streams.sizes(case).get('request', 0) > 16384), case.fill % 6 if several else 0
-    held = streams.slices(case)
-    asked, table = held['request'], held['table']
+def answered(case, outcome):
+    """The result of an answer, and what it carries."""
     said, carried = None, []
     for kind, data in avps(answer(case, outcome)[20:]):
         if kind == (268, 0):
@@ -59,6 +52,34 @@ def row(case, outcome):
             carried.append((279, next((k if k in KNOWN else 0 for k, _ in avps(data)), None)))
         elif kind[0] in (1, 602, 603, 606, 612, 628):
             carried.append(kind)
+    return said, tuple(carried)
+
+
+def box(case, outcome):
+    """What a call of Sh comes to: its result, what was asked, and of a success the line's state, whether it is pending, whether it stores a name; and what
+    its answer carries."""
+    held = streams.slices(case)
+    given, (said, carried) = list(avps(held['request'][20:])), answered(case, outcome)
+    asked = {number(data) if number(data) in (11, 12) else 0 for kind, data in given if kind == (703, CX)}
+    result = 10, said, tuple(sorted(asked)) if said in (('X', 5001), ('X', 5100), ('B', 2001)) else ()
+    if said == ('B', 2001):
+        name = dict(avps(dict(given)[700, CX]))[601, CX]
+        result += streams.told(held['table'], name)
+    return result, carried
+
+
+def row(case, outcome):
+    """What a case comes to, and what its answer carries."""
+    if case.entry == 4:
+        return month(case, outcome)
+    if outcome.word >> 48 or case.entry not in (2, 10):
+        several = case.entry not in (2, 10) or outcome.word >> 48 >= 5  # a bad block has many causes
+        return (case.entry, outcome.word, streams.sizes(case).get('request', 0) > 16384), case.fill % 6 if several else 0
+    if case.entry == 10:
+        return box(case, outcome)
+    held = streams.slices(case)
+    asked, table = held['request'], held['table']
+    said, carried = answered(case, outcome)
     command, given = int.from_bytes(asked[5:8], 'big'), list(avps(asked[20:]))
     result = command if command in (300, 301, 302, 303) else 0, said
     if command == 301 and said not in RULES:
@@ -72,7 +93,7 @@ def row(case, outcome):
         result += streams.state(table, named), streams.set_size(table, named) > 1, streams.changes(case, outcome)['table'][1] == b''
     if command == 300 and (601, CX) in dict(given):
         result += streams.set_size(table, dict(given)[601, CX]),
-    return result, tuple(carried)
+    return result, carried
 
 
 TABLES = 'table', 'area', 'fresh'
@@ -100,11 +121,15 @@ def small(case):
 def fitting(reference):
     """Cases that fit, the smallest first."""
     found = []
-    few = [(kind, (1,), 4000) for kind in ('tables', 'vectors', 'reports', 'moves', 'takes', 'lists', 'voicemail')]
-    for kind, seeds, count in (*few, ('calls', range(1, 6), 20000)):
+    few = [(kind, (1,), 4000) for kind in ('tables', 'vectors', 'reports', 'moves', 'takes')]
+    for kind, seeds, count in (*few, ('voicemail', (1,), 10000), ('calls', range(1, 6), 20000)):
         for seed in seeds:
             found += [case for case in streams.cases(made(reference, kind, seed, count)) if fits(case)]
     return sorted(found, key=lambda case: len(case.whole))
+
+
+def outcomes_of(reference, found):
+    return list(outcomes(run(reference, 'outcomes', given=b''.join(case.whole for case in found))))
 
 
 def showing(reference, fault, found, told):
@@ -120,13 +145,18 @@ def showing(reference, fault, found, told):
 
 
 def telling(reference, found, told):
-    """For each deliberate fault of the independent program the first case that shows it, unless one for a fault before does."""
-    kept = []
+    """For each deliberate fault of the independent program the first case that shows it, unless one for a fault before does. The libraries have no lists: a
+    fault that shows in a list, and in none of the smallest cases, is left out."""
+    kept, lists = [], list(streams.cases(made(reference, 'lists', 1, 2000)))
+    listed = lists, outcomes_of(reference, lists)
     for line in run(reference, 'faults').decode().splitlines():
         fault = line.split()[0]
         if kept and showing(reference, fault, *zip(*kept)):
             continue
-        case = showing(reference, fault, found, told)
+        case = showing(reference, fault, found[:1000], told[:1000])
+        if case is None and showing(reference, fault, *listed):
+            continue
+        case = case or showing(reference, fault, found[1000:], told[1000:])
         if case is None:
             print(f'no case shows {fault}')
         else:
@@ -138,7 +168,7 @@ def chosen(reference):
     """The smallest case for each fault and for each result, then for each result over each edition, then with what the answer carries, and
     more while there is room."""
     found = fitting(reference)
-    told = list(outcomes(run(reference, 'outcomes', given=b''.join(case.whole for case in found))))
+    told = outcomes_of(reference, found)
     results, editions, rows = (collections.defaultdict(list) for _ in range(3))
     for case, outcome in zip(found, told):
         if small(case):

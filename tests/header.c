@@ -62,9 +62,9 @@ static void sh_holds(void) {
             request[at] ^= (uint8_t)bit;
         }
     holds(others, "a request of another application taken for one of Sh");
-#if NDUSHAVIRE_SH_APPLICATION != 16777217 || NDUSHAVIRE_SH_USER_DATA != 306 || NDUSHAVIRE_SH_STATE != 11 || \
+#if NDUSHAVIRE_SH_APPLICATION != 16777217 || NDUSHAVIRE_SH_USER_DATA_REQUEST != 306 || NDUSHAVIRE_SH_STATE != 11 || \
     NDUSHAVIRE_SH_SERVER_NAME != 12 || NDUSHAVIRE_SH_NOT_REGISTERED != 0 || NDUSHAVIRE_SH_REGISTERED != 1 || \
-    NDUSHAVIRE_SH_UNREGISTERED_SERVICES != 2 || NDUSHAVIRE_SH_AUTHENTICATION_PENDING != 3
+    NDUSHAVIRE_SH_UNREGISTERED != 2 || NDUSHAVIRE_SH_AUTHENTICATION_PENDING != 3
     holds(0, "a number of Sh is no number to the preprocessor");
 #endif
 }

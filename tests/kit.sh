@@ -71,6 +71,6 @@ The tests, s by the clock and of processor, what takes a second and more:
     40.2   21.2  texts
 END
 helped=$(sed -n 's/^#: \([a-z]*\) .*/\1/p' "$top/Makefile" | sed -n '/^fmt$/,/^noticed$/p' | sort)
-parts=$(sed -n 's/^PARTS := //p' "$top/Makefile" | tr ' ' '\n' | sort)
+parts=$(sed -e ':more' -e '/\\$/{N; s/ *\\\n */ /; b more' -e '}' "$top/Makefile" | sed -n 's/^PARTS := //p' | tr ' ' '\n' | sort) # a line may go on
 diff <(echo "$helped") <(echo "$parts") >&2 || fail 'make test has other parts than make help lists from fmt to noticed'
 echo "kit.sh: .ci/run asks for $(cat "$top/KIT-ID"), and says what its parts took"

@@ -7,7 +7,7 @@ reference=$1
 driver=("${@:2}")
 tried=0
 # A fault shows once in 1,600 pairs; a run has some 25 calls.
-declare -A count=([tables]=2000 [vectors]=2000 [calls]=2000 [voicemail]=2000 [reports]=1000 [moves]=2000 [takes]=2000 [demand3]=8000 [demand3-voicemail]=8000 [neighbours]=4000 [neighbours-voicemail]=4000 [breaches]=100 [runs]=50)
+declare -A count=([tables]=2000 [vectors]=2000 [calls]=2000 [voicemail]=8000 [reports]=1000 [moves]=2000 [takes]=2000 [demand3]=8000 [demand3-voicemail]=8000 [neighbours]=4000 [neighbours-voicemail]=4000 [breaches]=100 [runs]=50)
 
 ends() { # STATUS KIND DRIVER..
     local status=0

@@ -34,14 +34,18 @@ def below(crates, name):
 
 
 def plain(text):
-    """Without comments and strings."""
+    """Without comments, strings and single characters, of which one may be a quote."""
+    text = re.sub(r"b?'(\\.|[^'\\\n])'", "''", text)
     return re.sub(r'(?m)//.*$|(^|\s)--(\s.*)?$', ' ', re.sub(r'b?"(\\.|[^"\\])*"', '""', text))
 
 
-def named(text, known):
-    """What a file names of other crates: in definitions and proofs `CRATE.specs.Module` or `CRATE.proofs.Module`, in code `CRATE::name`."""
-    modules = {'.'.join(found) for found in re.findall(r'Rattle·(\w+)\.(specs|proofs|\w+)\.(\w+)', text)}
-    paths = {'%s::%s' % found for found in re.findall(r'(?<![\w:.])(\w+)::(\w+)', text) if found[0] in known}
+def named(text, first):
+    """What a file names of the first server's crates, however it does: in definitions and proofs by the crate's folder and what follows; in code by the crate's
+    name with what follows, in a `use` also alone."""
+    modules = {crate + rest for crate, rest in re.findall(r'Rattle·(\w+)((?:[·.]\w+)*)', text) if crate in first}
+    crate = r'(?<![\w.·])(%s)\b' % '|'.join(sorted(first))
+    paths = {name + '::' + rest for name, rest in re.findall(crate + r'\s*::\s*(\w+|\*|\{)', text)}
+    paths |= {name for use in re.findall(r'\buse\s+([^;]*);', text) for name in re.findall(crate + r'(?!\s*::)', use)}
     return modules, paths
 
 
@@ -63,19 +67,13 @@ def faults(crates_text, files):
             wrong.append('%s lists %s' % (name, other))
     for path, text in sorted(files.items()):
         crate, text = path.split('/')[1], plain(text)
-        modules, paths = named(text, set(crates))
+        modules, paths = named(text, first)
         for module in sorted(modules):
-            if module.split('.')[0] in first and (crate != SECOND or module not in PROMISES):
+            if crate != SECOND or module not in PROMISES:
                 wrong.append('%s names %s' % (path, module))
-        for name in sorted(paths):
-            if name.split('::')[0] in first and (crate != SECOND or name not in CODE):
+        for name in sorted(paths) if path.endswith('.rt') else []:
+            if crate != SECOND or name not in CODE:
                 wrong.append('%s names %s' % (path, name))
-        for name in re.findall(r'(?m)^\s*use\s+(\w+)\s*;', text):
-            if name in first:
-                wrong.append('%s names all of %s' % (path, name))
-        for glob in re.findall(r'Rattle·(\w+)(?![\w·.])', text):
-            if glob in first:
-                wrong.append('%s names all of %s' % (path, glob))
     exported = sorted(name for path, text in files.items() if path.endswith('.rt')
                       for name in re.findall(r'#\[no_mangle\]\s*pub extern "C" fn (\w+)', text))
     if exported != ENTRIES:
@@ -99,6 +97,14 @@ def noticed(crates_text, files):
         'another entry, called': into(entry, 'fn more() { ndushavire::ndushavire_check_vectors(v); }'),
         'another module in code': into(entry, 'use deciding::call;'),
         'a whole crate in code': into(entry, 'use calling;'),
+        'a whole crate, passed on': into(entry, 'pub use calling;'),
+        'a whole crate by another name': into(entry, 'use calling as first;'),
+        'several at once': into(entry, 'use ndushavire::{word, ndushavire_decide};'),
+        'all names of a crate': into(entry, 'use calling::*;'),
+        'a path from the root': into(entry, 'fn more() { crate::deciding::call(); }'),
+        'another module, behind a quote': into('crates/markup/src/lib.rt', "const MORE: u8 = b'\"';\nuse deciding::call;\nconst LAST: u8 = b'\"';"),
+        'definitions of the first server as one': into(serve, 'use Rattle.calling.specs as first'),
+        'definitions from within': into(serve, 'use Rattle.calling.specs.Serve.{serve}'),
         'the check, called below the last crate': into(answer, 'fn more() { ndushavire::ndushavire_check(t, p); }'),
         'a second entry': into(entry, '#[no_mangle]\npub extern "C" fn ndushavire_sh_more() {}'),
         'deciding, listed': listed(SECOND, 'deciding'),

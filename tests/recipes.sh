@@ -336,19 +336,22 @@ taking 'While the daemon serves'
 cmp "$here/live/table.next" "$here/sent/8" >&2 && [ ! -e "$here/live/table.part" ] || fail 'ndushavire-take(1): no table stands beside the live one'
 # The daemon, which then takes it over, says what the page says; cut, it does not start, and says which block is bad.
 next=$(displays ndushavire-take.1 'While the daemon serves' | grep '^daemon: ')
-run_daemon() { # STATUS: ends by itself, or by SIGTERM once it has taken the table over
-    local status=0 pid
-    (cd "$here" && exec ${RUN-} "$tree/service/daemon" -p 0 live cards 2>"$room/said") &
-    pid=$!
-    daemon_alone=$pid
+run_daemon() { # STATUS: ends by itself, or by SIGTERM once it has taken the table over. Its status is told by a file.
+    rm -f "$room/said" "$room/pid" "$room/status" # what another daemon said would end this one before it begins
+    (
+        status=0
+        (cd "$here" && echo "$BASHPID" >"$room/pid" && exec ${RUN-} "$tree/service/daemon" -p 0 live cards 2>"$room/said") || status=$?
+        echo "ended with status $status" >"$room/status"
+    ) &
     for ((tries = 0; tries < 3000; tries++)); do
-        ! kill -0 "$pid" 2>/dev/null || grep -q 'is taken over' "$room/said" && break
+        [ ! -s "$room/status" ] && ! grep -q 'is taken over' "$room/said" 2>/dev/null || break
         sleep 0.02
     done
-    kill -TERM "$pid" 2>/dev/null || true
-    wait "$pid" || status=$?
+    daemon_alone=$(cat "$room/pid")
+    [ -s "$room/status" ] || kill -TERM "$daemon_alone" 2>/dev/null || true
+    await "$room/status" '^ended' 'ndushavire-take(1): the daemon does not end'
     daemon_alone=''
-    [ "$status" = "$1" ] || fail "ndushavire-take(1): the daemon ends with status $status: $(cat "$room/said")"
+    [ "$(cat "$room/status")" = "ended with status $1" ] || fail "ndushavire-take(1): the daemon $(cat "$room/status"): $(cat "$room/said")"
 }
 run_daemon 0
 [ "$(grep -F table.next "$room/said")" = "$next" ] || fail "ndushavire-take(1): the daemon says '$(cat "$room/said")'"

@@ -146,7 +146,7 @@ static int survives(uint8_t *edges[2], uint32_t *state) {
     draw_message(message, length, state);
     draw_message(first, other, state);
     find_avp(message + HEADER, length - HEADER, 264);
-    names_cx(message + HEADER, length - HEADER);
+    names_ours(message + HEADER, length - HEADER);
     remember(5, (int)(drawn(state) % 2), message, length, first, other);
     const Remembered *one = recall(5, message, length);
     int good = one != NULL && without_route(plain, message, length) <= length;

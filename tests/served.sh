@@ -127,7 +127,7 @@ with 'an X5011 of which the log does not know another list' features daemon.c 's
 with 'an X5011 of which the log does not know another vendor' features daemon.c 's/(number_in(avp, VENDOR_ID) != VENDOR_3GPP || /(/'
 with 'an X5011 of which the log has the first bits of all' features daemon.c 's/ \&\& !asks_too_much(avp); left -= span/ \&\& four_bytes(avp) != SUPPORTED_FEATURES; left -= span/'
 with 'a User-Data-Request that goes to the Cx server' voicemail daemon.c 's/^    if (is_sh(request, length))$/    if (0)/'
-with 'a request of Sh by its command' voicemail daemon.c 's/ndushavire_sh_meant(request); }/command_of(request) == NDUSHAVIRE_SH_USER_DATA; }/'
+with 'a request of Sh by its command' voicemail daemon.c 's/ndushavire_sh_meant(request); }/command_of(request) == NDUSHAVIRE_SH_USER_DATA_REQUEST; }/'
 with 'a CEA without Sh' voicemail base.h 's/^    put_application(answer, SH);//'
 with 'a CEA without Cx' voicemail base.h 's/^    put_application(answer, CX);//'
 with 'a peer of Sh alone that is turned away' voicemail base.h 's/ || application == SH || / || /'

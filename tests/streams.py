@@ -107,6 +107,11 @@ def state(table, public):
     return next((b[8] for b in records(table) if b[16:16 + b[13]] == public), None)
 
 
+def told(table, public):
+    """What Sh tells of a public identity's record: state, pending, and whether a server name is stored."""
+    return next((b[8], b[9] & 1, b[15] > 0) for b in records(table) if b[16:16 + b[13]] == public)
+
+
 def set_size(table, public):
     """How many records the set of a public identity has: 0 without a set, 1, or 2 for several."""
     blocks = records(table)

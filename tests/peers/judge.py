@@ -1,12 +1,13 @@
 #!/usr/bin/env python3
-"""judge.py CAPTURE: what tshark says of every message that the daemon sent: whole, without a complaint, and each answer to a request; and who asked for
-features, which nobody else is told. Then the same of a copy in which one answer is damaged: it must complain."""
+"""judge.py CAPTURE: what tshark says of every message that the daemon sent, but for those of Sh, which are judge_sh.py's: whole, without a complaint, and
+each answer to a request; and who asked for features, which nobody else is told. Then the same of a copy in which one answer is damaged: it must complain."""
 import collections
 import subprocess
 import sys
 
-TO_DAEMON = "diameter && ip.dst == 127.0.0.1 && tcp.dstport == 3868"
-BY_DAEMON = "diameter && ip.src == 127.0.0.1 && tcp.srcport == 3868"
+OTHERS = "diameter && !(diameter.applicationId == 16777217)"
+TO_DAEMON = OTHERS + " && ip.dst == 127.0.0.1 && tcp.dstport == 3868"
+BY_DAEMON = OTHERS + " && ip.src == 127.0.0.1 && tcp.srcport == 3868"
 NAMES = {"257": "CEA", "280": "DWA", "282": "DPA", "300": "UAA", "301": "SAA", "302": "LIA", "303": "MAA"}
 
 
@@ -88,4 +89,5 @@ def main():
     return 1 if wrong else 0
 
 
-sys.exit(main())
+if __name__ == "__main__":
+    sys.exit(main())

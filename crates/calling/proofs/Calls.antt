@@ -1,7 +1,5 @@
 -- What each way through a call leaves.
-use Rattle.octets.specs.Standard.{ℕ, _≤_, _<_, _%_, List, Bool, true, false, cond, not, _||_, true≢false, _≡_, refl, sym, _∙_, arith, length, getD}
-use Rattle.octets.specs.Standard.{eqb, ltb, lt-ltb, le-ltb, eqb-true, ltb-false}
-use Rattle.octets.specs.Number.{be24At}
+use Rattle.octets.specs.Standard.{ℕ, _≤_, _<_, List, Bool, true, false, cond, _≡_, refl, sym, _∙_, arith, length}
 use Rattle.table.specs.Check.{checkTable}
 use Rattle.blocks.specs.declared.Checked.{Checked}
 use Rattle.blocks.specs.declared.Checked.the-variants.{Sound, Bad}
@@ -9,12 +7,10 @@ use Rattle.table.specs.SoundTable.{SoundTable}
 use Rattle.vectors.specs.VectorFile.{checkVectors, SoundVectors}
 use Rattle.reading.specs.declared.Dialect.{Dialect}
 use Rattle.reading.specs.declared.Terms.{Terms}
-use Rattle.requests.specs.Features.{wantedOf}
 use Rattle.requests.specs.Request.{dialectOf}
-use Rattle.requests.specs.declared.features.Wanted.{Wanted}
 use Rattle.deciding.specs.Decide.{decide}
 pub use Rattle.refusals.proofs.Passing.{length-even, size-least, size-most}
-use Rattle.refusals.proofs.Passing.{lets, none, passes}
+use Rattle.refusals.proofs.Passing.{lets, none}
 use Rattle.deciding.specs.Answers.{Tells}
 use Rattle.deciding.specs.declared.Told.{Told}
 use Rattle.calling.specs.declared.Came.{Came}
@@ -33,9 +29,6 @@ vectors-sound v n e f = record { count = n; checked = sym e ∙ f }
 
 pub dialect-own : (req : List ℕ) (terms : Terms) (d : Dialect) → d ≡ dialectOf terms req → d ≡ dialectOf (d .terms) req
 dialect-own req terms d e = rw e
-
-pub wanted-own : (req : List ℕ) (terms : Terms) (d : Dialect) (w : Wanted) → d ≡ dialectOf terms req → w ≡ wantedOf terms req → w ≡ wantedOf (d .terms) req
-wanted-own req terms d w e f = f ∙ rw e
 
 module _ (req t file v o : List ℕ) (terms : Terms) where
   abbrev x : Lent

@@ -1,16 +1,14 @@
 // One call: the refusals, tried in order, and the answer.
-use answering::Ground;
 use blocks::Checked;
+use deciding::Asked;
 use deciding::Told;
 use reading::Terms;
-use requests::features;
 ghost use mathlib.Core.Path.{_≡_};
 ghost use Prim.Native.Nat.{_≤_};
 ghost use lib.ListN.{length};
 ghost use Rattle.table.specs.Check.{checkTable};
 ghost use Rattle.table.specs.SoundTable.{SoundTable};
 ghost use Rattle.vectors.specs.VectorFile.{checkVectors};
-ghost use Rattle.requests.specs.Features.{wantedOf};
 ghost use Rattle.requests.specs.Request.{dialectOf};
 ghost use Rattle.refusals.specs.Passed.{Passed};
 ghost use Rattle.calling.specs.Lent.{lent};
@@ -36,24 +34,22 @@ pub struct Shared {
 // A request that all refusals but 6 let pass, over a vector file that was checked.
 fn over_sound(
     d: Checked,
-    ground: Ground,
+    asked: Asked,
     req: &[u8],
     t: &mut [u8],
     file: &[u8],
     v: &mut [u8],
     out: &mut [u8],
 ) -> Came
-    requires { ⌜ Passed (now req) (now out) × SoundTable (now t) (ground .count) × (d ≡ checkVectors (now v))
-        × (ground .dialect ≡ dialectOf (ground .dialect .terms) (now req)) × (ground .wanted ≡ wantedOf (ground .dialect .terms) (now req)) ⌝ }
-    ensures { λ r. ⌜ Leaves (lent (now (req .entry)) (now (t .entry)) (now (file .entry)) (now (v .entry)) (now (out .entry)) (ground .dialect .terms))
-        (serveChecked (lent (now (req .entry)) (now (t .entry)) (now (file .entry)) (now (v .entry)) (now (out .entry)) (ground .dialect .terms))
-        (Checked.Sound (ground .count)) d)
-        (ground .count) r (now (t .exit)) (now (v .exit)) (now (out .exit)) ⌝ }
+    requires { ⌜ Passed (now req) (now out) × SoundTable (now t) (asked .count) × (d ≡ checkVectors (now v))
+        × (asked .dialect ≡ dialectOf (asked .dialect .terms) (now req)) ⌝ }
+    ensures { λ r. ⌜ Leaves (lent (now (req .entry)) (now (t .entry)) (now (file .entry)) (now (v .entry)) (now (out .entry)) (asked .dialect .terms))
+        (serveChecked (lent (now (req .entry)) (now (t .entry)) (now (file .entry)) (now (v .entry)) (now (out .entry)) (asked .dialect .terms))
+        (Checked.Sound (asked .count)) d)
+        (asked .count) r (now (t .exit)) (now (v .exit)) (now (out .exit)) ⌝ }
 {
     match d {
-        Checked::Sound(_) => {
-            Came::Answered(deciding::answer_sound(out, req, t, file, v, ground))
-        }
+        Checked::Sound(_) => { Came::Answered(deciding::answer_sound(out, req, t, file, v, asked)) }
         Checked::Bad(_) => Came::Refused {
             number: UNSOUND_VECTORS,
             besides: 0,
@@ -80,13 +76,11 @@ fn over_checked(
     let dialect = requests::dialect(req, k.terms);
     match c {
         Checked::Sound(count) => {
-            let wanted = features::wanted_of(req, k.terms);
-            let ground = Ground {
+            let asked = Asked {
                 dialect,
-                wanted,
                 count: count as usize,
             };
-            over_sound(d, ground, req, t, file, v, out)
+            over_sound(d, asked, req, t, file, v, out)
         }
         Checked::Bad(block) => Came::Refused {
             number: refusals::UNSOUND,

@@ -110,6 +110,21 @@ fn take(given: &[u8], w: &[u8; 64]) -> bool {
     outcome::put(word, 1) & outcome::put_change(area, &a)
 }
 
+fn sh_decide(given: &[u8], w: &[u8; 64]) -> bool {
+    let buffer = words::slice(given, w, 3);
+    let mut out = [0u8; 40000];
+    run::copy(&mut out, buffer);
+    let room = buffer.len();
+    let word = ndushavire_sh::ndushavire_sh_decide(
+        words::slice(given, w, 0),
+        words::slice(given, w, 1),
+        words::slice(given, w, 2),
+        &mut out[..room],
+        words::number_of(w, 4),
+    );
+    outcome::put(word, 1) & outcome::put_change(buffer, &out)
+}
+
 // Calls an entry by its number in the streams.
 pub fn call(entry: u8, given: &[u8], w: &[u8; 64]) -> bool {
     match entry {
@@ -120,6 +135,7 @@ pub fn call(entry: u8, given: &[u8], w: &[u8; 64]) -> bool {
         5 => forward(given, w),
         6 => back(given, w),
         7 => take(given, w),
+        10 => sh_decide(given, w),
         _ => false,
     }
 }

@@ -32,7 +32,7 @@ use Rattle.requests.specs.Features.{beyondSet}
 use Rattle.requests.specs.Identity.{placesFrom}
 use Rattle.requests.specs.Judged.{Judged, bad, fine}
 use Rattle.requests.specs.Request.{readIn, given, dataSeen, schemeOf, identities}
-use Rattle.requests.proofs.Kept.{read-needed, server-most, server-least}
+use Rattle.requests.proofs.Kept.{read-needed, read-spoken, server-most, server-least}
 use Rattle.requests.proofs.Naming.{identities-at}
 use Rattle.choices.specs.Challenges.{claimOf, challengeOf}
 use Rattle.choices.specs.Choices.{authorization, location}
@@ -345,7 +345,7 @@ module _ (dialect : Dialect) (req t : List ℕ) (count : ℕ) (v : List ℕ) (se
 
     user-given : given seen userName ≡ true
     unfolding rowOf known useIn
-    user-given = read-needed dialect req seen userName read (omega arith) (rw is)
+    user-given = read-needed dialect req seen userName read (omega arith) (rw (read-spoken dialect req seen read .0, is))
 
     challenge-comes : (k : ℕ) → 1 ≤ k → k ≤ count → (a : Claimed) → (a .together ≡ true → privateAt t k ≡ dataSeen seen userName)
         → (a .some ≡ true → 0 < sending dialect req t count v seen .count) → (f : Finding) → Claim a f

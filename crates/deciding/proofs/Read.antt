@@ -1,6 +1,6 @@
 -- What reading comes to: every result that it blames has a column of the report and is no success; and no other command than the four is let pass.
-use Rattle.octets.specs.Standard.{ℕ, _+_, _/_, _%_, _≤_, List, [], _∷_, none, Bool, true, false, cond, not, _&&_, _≡_, refl, _⊎_, inl, inr, arith}
-use Rattle.octets.specs.Standard.{length, getD, eqb, leb, eqb-true, eqb-false, leb-true}
+use Rattle.octets.specs.Standard.{ℕ, _+_, _/_, _%_, _≤_, List, none, Bool, true, false, cond, not, _&&_, _≡_, refl, _⊎_, inl, inr}
+use Rattle.octets.specs.Standard.{length, getD, eqb, leb, eqb-false, leb-true}
 use Rattle.octets.proofs.All.{and-left, and-right}
 use Rattle.diameter.specs.Avp.{padded, avpHead, avpFlags, dataOf, valueOf, reserved, marked}
 use Rattle.diameter.specs.Message.{versionOf, messageFlags, applicationOf, bodyOf}
@@ -25,7 +25,7 @@ use Rattle.counting.specs.Results.{baseResults, indexIn}
 use Rattle.counting.specs.Counting.{listed, Listed}
 pub use Rattle.requests.proofs.Kept.{read-command}
 use Rattle.requests.specs.Judged.{Judged, bad, fine, nothing, onRule, judge}
-use Rattle.requests.specs.Request.{cx, spoken, headerFault, firstOther, missing, complete, readWalk, readIn}
+use Rattle.requests.specs.Request.{spoken, headerFault, firstOther, missing, complete, readWalk, readIn}
 use Rattle.deciding.proofs.Tests.{either}
 
 -- a result that has a column and is no success

@@ -4,11 +4,13 @@ pub mod planning;
 
 use answering::Ground;
 use choices::giving;
+use reading::Dialect;
 use reading::Outcome;
 use reading::Verdict;
 use reading::experimental;
 use reading::kinds;
 use requests::Walked;
+use requests::features;
 ghost use mathlib.Core.Bool.{false};
 ghost use mathlib.Core.Path.{_≡_};
 ghost use Prim.Native.Nat.{_≤_};
@@ -128,6 +130,39 @@ fn answer_fine(
     answer_read(out, req, t, file, v, ground, found)
 }
 
+// What a call over sound files goes by: the dialect of its request, and how many records the table has.
+pub struct Asked {
+    pub dialect: Dialect,
+    pub count: usize,
+}
+
+// The answer to a request that was read: its AVPs are gone over for features only if reading took some.
+fn answer_taken(
+    out: &mut [u8],
+    req: &[u8],
+    t: &mut [u8],
+    file: &[u8],
+    v: &mut [u8],
+    asked: Asked,
+    found: [usize; kinds::KINDS],
+) -> Told
+    requires { ⌜ Passed (now req) (now out) × SoundTable (now t) (asked .count) × SoundVectors (now v)
+        × (readIn (asked .dialect) (now req) ≡ fine (seenOf (now req) found)) ⌝ }
+    ensures { λ r. ⌜ Tells (asked .dialect) (now (req .entry)) (now (t .entry)) (asked .count) (now (file .entry)) (now (v .entry))
+        (now (out .entry)) (now (out .exit)) r
+        × (now (t .exit) ≡ decide (asked .dialect) (now (req .entry)) (now (t .entry)) (asked .count) (now (v .entry)) .table)
+        × (now (v .exit) ≡ decide (asked .dialect) (now (req .entry)) (now (t .entry)) (asked .count) (now (v .entry)) .vectors) ⌝ }
+{
+    let dialect = asked.dialect;
+    let wanted = features::wanted_read(req, dialect, found);
+    let ground = Ground {
+        dialect,
+        wanted,
+        count: asked.count,
+    };
+    answer_fine(out, req, t, file, v, ground, found)
+}
+
 // One request over a sound table and a sound vector file.
 pub fn answer_sound(
     out: &mut [u8],
@@ -135,20 +170,27 @@ pub fn answer_sound(
     t: &mut [u8],
     file: &[u8],
     v: &mut [u8],
-    ground: Ground,
+    asked: Asked,
 ) -> Told
-    requires { ⌜ Passed (now req) (now out) × SoundTable (now t) (ground .count) × SoundVectors (now v)
-        × (ground .wanted ≡ wantedOf (ground .dialect .terms) (now req)) ⌝ }
-    ensures { λ r. ⌜ Tells (ground .dialect) (now (req .entry)) (now (t .entry)) (ground .count) (now (file .entry)) (now (v .entry))
+    requires { ⌜ Passed (now req) (now out) × SoundTable (now t) (asked .count) × SoundVectors (now v) ⌝ }
+    ensures { λ r. ⌜ Tells (asked .dialect) (now (req .entry)) (now (t .entry)) (asked .count) (now (file .entry)) (now (v .entry))
         (now (out .entry)) (now (out .exit)) r
-        × (now (t .exit) ≡ decide (ground .dialect) (now (req .entry)) (now (t .entry)) (ground .count) (now (v .entry)) .table)
-        × (now (v .exit) ≡ decide (ground .dialect) (now (req .entry)) (now (t .entry)) (ground .count) (now (v .entry)) .vectors) ⌝ }
+        × (now (t .exit) ≡ decide (asked .dialect) (now (req .entry)) (now (t .entry)) (asked .count) (now (v .entry)) .table)
+        × (now (v .exit) ≡ decide (asked .dialect) (now (req .entry)) (now (t .entry)) (asked .count) (now (v .entry)) .vectors) ⌝ }
 {
-    let dialect = ground.dialect;
+    let dialect = asked.dialect;
     let mut found = [0; kinds::KINDS];
     let w = requests::read_in(req, dialect, &mut found);
     match w {
-        Walked::Read => answer_fine(out, req, t, file, v, ground, found),
-        Walked::Fault(f) => answer_fault(out, req, t, file, v, ground, f),
+        Walked::Read => answer_taken(out, req, t, file, v, asked, found),
+        Walked::Fault(f) => {
+            let wanted = features::wanted_of(req, dialect.terms);
+            let ground = Ground {
+                dialect,
+                wanted,
+                count: asked.count,
+            };
+            answer_fault(out, req, t, file, v, ground, f)
+        }
     }
 }

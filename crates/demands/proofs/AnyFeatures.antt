@@ -23,7 +23,8 @@ use Rattle.calling.specs.Lent.{Lent, dialectIn}
 use Rattle.calling.specs.Trial.{Trial, tried}
 use Rattle.calling.specs.Serve.{Served, checkOf, checkValue, trials, refused, answered, answeredBy, decision, serveFound, serveTableBy, serveTable}
 use Rattle.older_rules.specs.WithoutFeatures.{NoFeatures}
-use Rattle.older_rules.proofs.Features.{none-beyond, none-listed, on-same}
+use Rattle.requests.proofs.Featured.{none-beyond}
+use Rattle.older_rules.proofs.Features.{none-listed, on-same}
 use Rattle.demands.specs.Features.{withFeatures, Beyond}
 use Rattle.demands.proofs.Dialects.{spoken, read-same}
 use Rattle.demands.proofs.PeerCalls.{tried-same}
@@ -118,7 +119,7 @@ module _ (x : Lent) (free : NoFeatures (bodyOf (x .request))) (features other : 
   pub served-any : serveTable (withFeatures x features) ≡ serveTable (withFeatures x other)
   unfolding serveTableBy serveFound
   served-any =
-      let n : Beyond (withFeatures x features) → ⊥ = λ b. true≢false (sym (beyond-holds (withFeatures x features) b) ∙ none-beyond _ (x .request) free) in
-      let m : Beyond (withFeatures x other) → ⊥ = λ b. true≢false (sym (beyond-holds (withFeatures x other) b) ∙ none-beyond _ (x .request) free) in
+      let n : Beyond (withFeatures x features) → ⊥ = λ b. true≢false (sym (beyond-holds (withFeatures x features) b) ∙ none-beyond (x .request) free _) in
+      let m : Beyond (withFeatures x other) → ⊥ = λ b. true≢false (sym (beyond-holds (withFeatures x other) b) ∙ none-beyond (x .request) free _) in
       tried-same (refused (withFeatures x features)) (refused (withFeatures x other)) _ _ refused-any (trials (withFeatures x features))
       (λ e. answered-any _ ∙ ap (answered (withFeatures x other)) (decided-any x features other n m (checkValue (checkOf x))))

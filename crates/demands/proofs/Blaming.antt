@@ -108,7 +108,7 @@ module _ (x : Lent) where
       read e (bad v) r =
           let q : v .place ≡ place = sym (place-read e ∙ ap placeOf r) in
           let f = read-fault (dialectIn x) (x .request) v (λ z. n (sym q ∙ z)) r in
-          record { taken = e; result = f .number; fault = same-place (dialectIn x) (x .request) (f .number) q (f .fault) }
+          record { taken = e; result = f .number; fault = same-place (dialectIn x) (x .request) (f .number) q (f .at) }
       read e (fine seen) r = absurd (n (place-read e ∙ ap placeOf r))
 
       go : (y : Bool) → turnedAway x ≡ y → Blames x place

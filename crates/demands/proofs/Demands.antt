@@ -25,12 +25,14 @@ use Rattle.ndushavire.specs.Promise.{CheckPromise, CheckVectorsPromise, DecideP
 use Rattle.moving.specs.Outcomes.{forward, back}
 use Rattle.taking.specs.TakeOver.{takeOver}
 use Rattle.demands.proofs.Firm.{check-said, check-vectors-said, forward-said, back-said, take-said}
+use Rattle.reading.specs.Kinds.{useOf, isUnknown}
 use Rattle.reading.specs.declared.Dialect.{Dialect}
-use Rattle.requests.specs.Request.{dialectOf}
+use Rattle.requests.specs.Request.{dialectOf, cx}
 use Rattle.demands.specs.Call.{turnedAway, answerTo, Exactly}
 use Rattle.demands.specs.Frame.{succeeds, subscriptionOf}
 use Rattle.demands.specs.Insertion.{requestOf, Foreign, Quiet, Inserted, keep, placeNow, placed, FirstMarked, faultIn, behindRow, unsupported}
 use Rattle.demands.specs.Insertion.{Cut, Longer, Newer}
+use Rattle.demands.specs.Knowing.{isAmong, kindsOfCx, kindsOf}
 use Rattle.demands.proofs.Refusals.{refusals, number-most, besides-none, besides-block, answer-long, answer-within, word-reads, refused-kept}
 use Rattle.demands.proofs.Refusals.{answered-is, buffer-length, buffer-past}
 use Rattle.demands.proofs.Fitting.{fits}
@@ -38,6 +40,7 @@ use Rattle.demands.proofs.Frame.{failure-kept, question-kept, vectors-k
 use Rattle.demands.proofs.Areas.{area-stays, area-checked, area-others, area-header, area-bytes, area-bits}
 use Rattle.demands.proofs.Blaming.{blamed-over}
 use Rattle.demands.proofs.Insertions.{unmarked-same, marked-kept, mark-answered, fault-first}
+use Rattle.demands.proofs.Knowing.{cx-kinds, others-unknown}
 use Rattle.demands.proofs.Longer.{marked-or-not, longer-newer}
 use Rattle.demands.proofs.Cuts.{every-request}
 
@@ -201,6 +204,14 @@ module _ (a : Lent) where
 -- B3009.
 pub demand-3 : (a : Lent) (longer : List ℕ) (l : Longer (a .terms) (a .request) longer) → Newer a longer l
 demand-3 = longer-newer
+
+-- The kinds that are known are the same under every command, those of the header's faults too; every AVP of another kind is unknown, the Sh server's 700 and 703
+-- among them.
+pub demand-3-kinds : (a : Lent) → a .terms .application ≡ cx → kindsOf (dialectIn a) ≡ kindsOfCx
+demand-3-kinds a = cx-kinds (dialectIn a)
+
+pub demand-3-others : (a : Lent) → a .terms .application ≡ cx → (u : List ℕ) → isAmong kindsOfCx u ≡ false → isUnknown (useOf (dialectIn a) u) ≡ true
+demand-3-others a e u n = others-unknown (dialectIn a) u (cx-kinds (dialectIn a) e) n
 
 -- Case by case: a request is a header, a row of AVPs that pass (a), `q` and then `qs`, and any bytes behind them; the longer one has the row `q` and then `rs`.
 module _ (head : List ℕ) (twenty : length head ≡ 20) (q : Piece) (qs rs : List Piece) (whole : All Whole (q ∷ qs)) (tail : List ℕ) (fours : length tail % 4 ≡ 0)

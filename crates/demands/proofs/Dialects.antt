@@ -8,7 +8,7 @@ use Rattle.reading.specs.Verdicts.{lackOf}
 use Rattle.reading.specs.declared.Dialect.{Dialect}
 use Rattle.reading.specs.declared.Kind.{Kind}
 use Rattle.requests.specs.Judged.{Judged, bad, fine, nothing, judge}
-use Rattle.requests.specs.Request.{headerFault, missingFrom, missing, complete, readWalk, readIn}
+use Rattle.requests.specs.Request.{headerFault, missingFrom, missing, complete, readWalk, readBy, readIn}
 
 abbrev pub spoken : ℕ → ℕ → ℕ → ℕ → Dialect
 spoken command app peer features = record { command = command; terms = record { application = app; peer = peer; features = features } }
@@ -34,9 +34,14 @@ module _ (command app p q f g : ℕ) where
   unfolding headerFault
   header-same req = refl
 
-  pub read-same : (req : List ℕ) → judge this 20 (bodyOf req) nothing ≡ judge that 20 (bodyOf req) nothing → readIn this req ≡ readIn that req
-  unfolding readIn readWalk
-  read-same req e =
-      let c : complete this (judge this 20 (bodyOf req) nothing) ≡ complete that (judge that 20 (bodyOf req) nothing)
-      = ap (complete this) e ∙ complete-same (judge that 20 (bodyOf req) nothing) in
-      rw (header-same req, c)
+  module _ (req : List ℕ) (e : judge this 20 (bodyOf req) nothing ≡ judge that 20 (bodyOf req) nothing) where
+    pub read-same-by : (fault : ℕ) → readBy fault this req ≡ readBy fault that req
+    unfolding readWalk
+    read-same-by fault =
+        let c : complete this (judge this 20 (bodyOf req) nothing) ≡ complete that (judge that 20 (bodyOf req) nothing)
+        = ap (complete this) e ∙ complete-same (judge that 20 (bodyOf req) nothing) in
+        rw c
+
+    pub read-same : readIn this req ≡ readIn that req
+    unfolding readIn
+    read-same = rw (header-same req) (read-same-by (headerFault that req))

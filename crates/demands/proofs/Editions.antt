@@ -19,16 +19,18 @@ use Rattle.reading.specs.declared.Dialect.{Dialect}
 use Rattle.reading.specs.declared.Kind.{Kind}
 use Rattle.reading.specs.declared.Ruled.{Ruled}
 use Rattle.reading.specs.declared.Ruled.the-variants.{Taken, Skipped, Fault}
+use Rattle.reading.specs.declared.Use.{Use}
 use Rattle.reading.specs.declared.Use.the-variants.{Needed}
 use Rattle.reading.specs.declared.group.Group.{Group}
 use Rattle.reading.specs.declared.group.Group.the-variants.{Application, AuthDataItem, SupportedFeatures, UserIdentity}
+use Rattle.reading.proofs.Columns.{use-any}
 use Rattle.requests.specs.Features.{beyondSet}
 use Rattle.requests.specs.Judged.{Judged, bad, fine, nothing, onRule, judge}
 use Rattle.requests.specs.Request.{headerFault, firstOther, readWalk, readIn}
 use Rattle.deciding.specs.Decide.{judgedBy, decideBy, decide}
 use Rattle.deciding.specs.Plans.{planRead}
 use Rattle.deciding.specs.Rules.{inForce}
-use Rattle.demands.specs.Place.{behindAt, ReadingReaches, first, pastTaken, pastSkipped, lengthFault, ruleFault, AtFault}
+use Rattle.demands.specs.Place.{behindAt, ReadingReaches, first, pastTaken, pastSkipped, lengthFault, ruleFault, AtFaultBy}
 use Rattle.demands.specs.Peers.{vendorIds, OneVendor, Second, ComesTo}
 use Rattle.older_rules.proofs.Features.{on-same}
 use Rattle.demands.proofs.Dialects.{spoken}
@@ -149,15 +151,8 @@ module _ (command app features : ℕ) where
 
   needed : (peer : ℕ) (a : List ℕ) → kindOf a ≡ application
       → useOf (record { command = command; terms = record { application = app; peer = peer; features = features } }) a ≡ Needed
-  unfolding useIn rowOf known
-  needed peer a k = rw k (go (eqb command 300) (eqb command 301) (eqb command 302) (eqb command 306))
-    where
-      go : (x y z u : Bool) → cond x Needed (cond y Needed (cond z Needed (cond u Needed Needed))) ≡ Needed
-      go true y z u = refl
-      go false true z u = refl
-      go false false true u = refl
-      go false false false true = refl
-      go false false false false = refl
+  unfolding rowOf known
+  needed peer a k = rw k (use-any (λ (u : Use). u ≡ Needed) _ (rowOf application) (λ e. refl) refl refl refl refl)
 
   -- Such a 260, if no other rule blames it, is at fault by the newer edition and not by the older one.
   newer-fault : (a : List ℕ) → Second app a → fault newer a ≡ 5009
@@ -295,12 +290,13 @@ module _ (command app features : ℕ) where
     unblamed : (d : Dialect) (place : ℕ) (c : ComesTo d req place) → d .terms .application ≡ app → Unblamed (c .seen) (avpAt req place)
     unblamed d place c e = record { flags = rw (c .flags); before = c .before; second = rw (← e) (c .second) }
 
-    pub newer-breaks : (place : ℕ) → ComesTo newer req place → headerFault newer req ≡ 0 → firstOther (bodyOf req) ≡ false → AtFault newer req 5009 place
+    pub newer-breaks : {header : ℕ} (place : ℕ) → ComesTo newer req place → header ≡ 0 → firstOther (bodyOf req) ≡ false
+        → AtFaultBy header newer req 5009 place
     newer-breaks place c h f =
         let b = ruleFault 5009 (c .whole) (newer-rule (c .seen) (avpAt req place) (unblamed newer place c refl)) in
         record { header = h; session = f; seen = c .seen; reached = c .reached; breaks = b }
 
-    pub older-passes : (place : ℕ) → ComesTo older req place → (n at : ℕ) → AtFault older req n at → at ≢ place
+    pub older-passes : {header : ℕ} (place : ℕ) → ComesTo older req place → (n at : ℕ) → AtFaultBy header older req n at → at ≢ place
     older-passes place c n at f =
         taken-passes older req place (c .seen) (c .reached) (c .whole) (older-rule (c .seen) (avpAt req place) (unblamed older place c refl)) n at f
 

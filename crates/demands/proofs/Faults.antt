@@ -23,13 +23,13 @@ use Rattle.reading.specs.declared.Use.the-variants.{Unknown, Unnamed, Needed, O
 use Rattle.reading.specs.declared.Verdict.{Verdict}
 use Rattle.requests.specs.Features.{beyondSet}
 use Rattle.requests.specs.Judged.{Judged, bad, fine, nothing, onRule, judge}
-use Rattle.requests.specs.Request.{headerFault, firstOther, missing, complete, readWalk, readIn}
+use Rattle.requests.specs.Request.{headerFault, firstOther, missing, complete, readWalk, readBy, readIn}
 use Rattle.requests.proofs.Faulting.{read-placed}
 use Rattle.deciding.specs.Rules.{inForce}
 use Rattle.deciding.specs.Decide.{Decision, performedBy, judgedBy, decideBy, decide}
 use Rattle.deciding.proofs.Tests.{either}
 use Rattle.demands.specs.Frame.{succeeds}
-use Rattle.demands.specs.Place.{behindAt, ReadingReaches, first, pastTaken, pastSkipped, Breaks, lengthFault, ruleFault, OfRules, AtFault}
+use Rattle.demands.specs.Place.{behindAt, ReadingReaches, first, pastTaken, pastSkipped, Breaks, lengthFault, ruleFault, OfRules, AtFaultBy, AtFault}
 
 pub fine-bad : {A : Type 0} (seen : Seen) (v : Verdict) → fine seen ≡ bad v → A
 fine-bad seen v e = let z : _≡_ {A = ℕ} 0 1 = cc in absurd (omega arith)
@@ -97,7 +97,7 @@ module _ (d : Dialect) (req : List ℕ) where
       go (Fault n) f rest = let q : v .place ≡ at = cc in omega arith
 
   pub taken-passes : (at : ℕ) (seen : Seen) → ReadingReaches d req at seen → sound (drop at req) ≡ true → rule d seen (avpAt req at) ≡ Taken
-      → (n place : ℕ) → AtFault d req n place → place ≢ at
+      → {fault : ℕ} (n place : ℕ) → AtFaultBy fault d req n place → place ≢ at
   taken-passes at seen r s e n place f h =
       let j : judgeAt (behindAt req at) (set seen (kindOf (avpAt req at)) (some (avpAt req at))) ≡ bad (faultAt n place)
       = sym (judge-reaches r ∙ judge-taken at seen s e) ∙ judge-reaches (f .reached) ∙ judge-breaks place (f .seen) n (f .breaks) in
@@ -155,53 +155,63 @@ module _ (d : Dialect) (req : List ℕ) where
   judge-finds v e = found-within (length (drop 20 req)) 20 nothing (omega arith) first v e
 
 -- A request: the AVP at fault is what reading it comes to, and a verdict with a place is such an AVP's.
-pub fault-read : (d : Dialect) (req : List ℕ) (n place : ℕ) → AtFault d req n place → readIn d req ≡ bad (faultAt n place)
-unfolding readIn readWalk complete
-fault-read d req n place f =
+pub fault-read-by : {fault : ℕ} (d : Dialect) (req : List ℕ) (n place : ℕ) → AtFaultBy fault d req n place → readBy fault d req ≡ bad (faultAt n place)
+unfolding readWalk complete
+fault-read-by d req n place f =
     let j : judge d 20 (bodyOf req) nothing ≡ bad (faultAt n place) = judge-reaches d req (f .reached) ∙ judge-breaks d req place (f .seen) n (f .breaks) in
     rw (f .header, f .session, j)
 
-pub record Faulty (d : Dialect) (req : List ℕ) (v : Verdict) : Type 0 where
+pub fault-read : (d : Dialect) (req : List ℕ) (n place : ℕ) → AtFault d req n place → readIn d req ≡ bad (faultAt n place)
+unfolding readIn
+fault-read d req n place f = fault-read-by d req n place f
+
+pub record Faulty (fault : ℕ) (d : Dialect) (req : List ℕ) (v : Verdict) : Type 0 where
   pub number : ℕ
-  pub fault : AtFault d req number (v .place)
+  pub at : AtFaultBy fault d req number (v .place)
   pub is : v ≡ faultAt number (v .place)
 
-pub same-place : (d : Dialect) (req : List ℕ) (n : ℕ) {p q : ℕ} → p ≡ q → AtFault d req n p → AtFault d req n q
+pub same-place : {fault : ℕ} (d : Dialect) (req : List ℕ) (n : ℕ) {p q : ℕ} → p ≡ q → AtFaultBy fault d req n p → AtFaultBy fault d req n q
 same-place d req n e f = rw (← e) f
 
-nowhere : (d : Dialect) (req : List ℕ) (v w : Verdict) → w .place ≡ 0 → v .place ≢ 0 → bad w ≡ bad v → Faulty d req v
-nowhere d req v w z n e = let q : v .place ≡ w .place = cc in absurd (n (q ∙ z))
+module _ (fault : ℕ) (d : Dialect) (req : List ℕ) (v : Verdict) where
+  nowhere : (w : Verdict) → w .place ≡ 0 → v .place ≢ 0 → bad w ≡ bad v → Faulty fault d req v
+  nowhere w z n e = let q : v .place ≡ w .place = cc in absurd (n (q ∙ z))
 
-complete-found : (d : Dialect) (req : List ℕ) (v : Verdict) (j : Judged) → v .place ≢ 0 → (j ≡ bad v → Faulty d req v) → complete d j ≡ bad v → Faulty d req v
-unfolding complete
-complete-found d req v (bad w) n h e = h e
-complete-found d req v (fine seen) n h e = go (eqb (missing d seen) 0) e
-  where
-    go : (x : Bool) → cond x (fine seen) (bad (lackOf (missing d seen))) ≡ bad v → Faulty d req v
-    go true f = fine-bad seen v f
-    go false f = nowhere d req v (lackOf (missing d seen)) refl n f
+  complete-found : (j : Judged) → v .place ≢ 0 → (j ≡ bad v → Faulty fault d req v) → complete d j ≡ bad v → Faulty fault d req v
+  unfolding complete
+  complete-found (bad w) n h e = h e
+  complete-found (fine seen) n h e = go (eqb (missing d seen) 0) e
+    where
+      go : (x : Bool) → cond x (fine seen) (bad (lackOf (missing d seen))) ≡ bad v → Faulty fault d req v
+      go true f = fine-bad seen v f
+      go false f = nowhere (lackOf (missing d seen)) refl n f
 
-pub read-fault : (d : Dialect) (req : List ℕ) (v : Verdict) → v .place ≢ 0 → readIn d req ≡ bad v → Faulty d req v
-unfolding readIn readWalk
-read-fault d req v n e = go (eqb (headerFault d req) 0) refl e
-  where
-    walked : headerFault d req ≡ 0 → firstOther (bodyOf req) ≡ false → judge d 20 (bodyOf req) nothing ≡ bad v → Faulty d req v
-    walked h b f =
-        let w = judge-finds d req v f in
-        let p : w .place ≡ v .place = sym (ap (λ (u : Verdict). u .place) (w .is)) in
-        let a : AtFault d req (w .number) (w .place) = record { header = h; session = b; seen = w .seen; reached = w .reached; breaks = w .breaks } in
-        record { number = w .number; fault = same-place d req (w .number) p a; is = w .is ∙ ap (faultAt (w .number)) p }
+  pub read-fault-by : v .place ≢ 0 → readBy fault d req ≡ bad v → Faulty fault d req v
+  unfolding readWalk
+  read-fault-by n e = go (eqb fault 0) refl e
+    where
+      walked : fault ≡ 0 → firstOther (bodyOf req) ≡ false → judge d 20 (bodyOf req) nothing ≡ bad v → Faulty fault d req v
+      walked h b f =
+          let w = judge-finds d req v f in
+          let p : w .place ≡ v .place = sym (ap (λ (u : Verdict). u .place) (w .is)) in
+          let a : AtFaultBy fault d req (w .number) (w .place) =
+          record { header = h; session = b; seen = w .seen; reached = w .reached; breaks = w .breaks } in
+          record { number = w .number; at = same-place d req (w .number) p a; is = w .is ∙ ap (faultAt (w .number)) p }
 
-    begun : headerFault d req ≡ 0 → (x : Bool) → firstOther (bodyOf req) ≡ x
-        → cond x (bad (lackOf sessionId)) (complete d (judge d 20 (bodyOf req) nothing)) ≡ bad v → Faulty d req v
-    begun h true b f = nowhere d req v (lackOf sessionId) refl n f
-    begun h false b f = complete-found d req v (judge d 20 (bodyOf req) nothing) n (walked h b) f
+      begun : fault ≡ 0 → (x : Bool) → firstOther (bodyOf req) ≡ x
+          → cond x (bad (lackOf sessionId)) (complete d (judge d 20 (bodyOf req) nothing)) ≡ bad v → Faulty fault d req v
+      begun h true b f = nowhere (lackOf sessionId) refl n f
+      begun h false b f = complete-found (judge d 20 (bodyOf req) nothing) n (walked h b) f
 
-    go : (x : Bool) → eqb (headerFault d req) 0 ≡ x
-        → cond x (cond (firstOther (bodyOf req)) (bad (lackOf sessionId)) (complete d (judge d 20 (bodyOf req) nothing))) (bad (faultOf (headerFault d req)))
-        ≡ bad v → Faulty d req v
-    go true h f = begun (eqb-true _ _ h) (firstOther (bodyOf req)) refl f
-    go false h f = nowhere d req v (faultOf (headerFault d req)) refl n f
+      go : (x : Bool) → eqb fault 0 ≡ x
+          → cond x (cond (firstOther (bodyOf req)) (bad (lackOf sessionId)) (complete d (judge d 20 (bodyOf req) nothing))) (bad (faultOf fault)) ≡ bad v
+          → Faulty fault d req v
+      go true h f = begun (eqb-true _ _ h) (firstOther (bodyOf req)) refl f
+      go false h f = nowhere (faultOf fault) refl n f
+
+pub read-fault : (d : Dialect) (req : List ℕ) (v : Verdict) → v .place ≢ 0 → readIn d req ≡ bad v → Faulty (headerFault d req) d req v
+unfolding readIn
+read-fault d req v n e = read-fault-by (headerFault d req) d req v n e
 
 -- Where it stands: behind the header, within the request, at a multiple of 4.
 pub reaches-least : (d : Dialect) (req : List ℕ) {at : ℕ} {seen : Seen} → ReadingReaches d req at seen → (20 ≤ at) × (at % 4 ≡ 0)
@@ -214,7 +224,7 @@ breaks-within : (d : Dialect) (req : List ℕ) (seen : Seen) (at n : ℕ) → Br
 breaks-within d req seen at n (lengthFault h s) = h
 breaks-within d req seen at n (ruleFault m s e) = omega (arith, avp-within req at s)
 
-module _ (d : Dialect) (req : List ℕ) (n place : ℕ) (f : AtFault d req n place) where
+module _ {fault : ℕ} (d : Dialect) (req : List ℕ) (n place : ℕ) (f : AtFaultBy fault d req n place) where
   pub fault-least : 20 ≤ place
   fault-least = reaches-least d req (f .reached) .0
 
@@ -294,7 +304,7 @@ breaks-number : (d : Dialect) (req : List ℕ) (seen : Seen) (at n : ℕ) → Br
 breaks-number d req seen at n (lengthFault h s) = inl refl
 breaks-number d req seen at n (ruleFault m s e) = rule-number d seen (avpAt req at) n e
 
-pub fault-number : (d : Dialect) (req : List ℕ) (n place : ℕ) → AtFault d req n place → OfRules n
+pub fault-number : {fault : ℕ} (d : Dialect) (req : List ℕ) (n place : ℕ) → AtFaultBy fault d req n place → OfRules n
 fault-number d req n place f = breaks-number d req (f .seen) place n (f .breaks)
 
 -- none of them is B5005, nor a success

@@ -21,6 +21,7 @@ use Rattle.reading.specs.declared.Verdict.{Verdict}
 use Rattle.requests.specs.Features.{listCalled}
 use Rattle.requests.specs.Judged.{bad, nothing}
 use Rattle.requests.specs.Request.{headerFault, firstOther, readIn}
+use Rattle.requests.proofs.Featured.{rule-is}
 use Rattle.choices.specs.Given.{givenFault}
 use Rattle.failed.specs.Failing.{failedBy, failedOf}
 use Rattle.reply.specs.Pieces.{identityBytes, nameBytes, dataBytes, givenBytes, listBytes, topBytes}
@@ -45,7 +46,7 @@ use Rattle.demands.proofs.Fitting.{fits}
 use Rattle.demands.proofs.Place.{place-answer, place-blames}
 use Rattle.demands.proofs.Refusals.{answer-is}
 use Rattle.demands.proofs.Undecided.{Unsupported, unsupported-only, unsupported-decides}
-use Rattle.demands.proofs.Wanting.{beyond-says, beyond-holds, rule-is, never-unknown, of-cx, called-says, called-holds}
+use Rattle.demands.proofs.Wanting.{beyond-says, beyond-holds, never-unknown, of-cx, called-says, called-holds}
 use Rattle.older_rules.proofs.Features as older
 use Rattle.demands.proofs.AnyFeatures as any
 

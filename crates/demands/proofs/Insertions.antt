@@ -1,13 +1,12 @@
 -- Demand 3: AVPs of unknown kinds put into a request after its first AVP. Without M nothing changes; the first with M is B5001, unless a fault before it
 -- decides. What reading makes of them is proofs/Rows'.
-use Rattle.octets.specs.Standard.{ℕ, _+_, _%_, _≤_, _<_, List, [], _∷_, _++_, Bool, true, false, not, _||_, true≢false, _≡_}
+use Rattle.octets.specs.Standard.{ℕ, _+_, _%_, _≤_, _<_, List, _∷_, _++_, Bool, true, false, not, _||_, true≢false, _≡_}
 use Rattle.octets.specs.Standard.{refl, sym, ap, _∙_, length, eqb}
-use Rattle.diameter.specs.Message.{commandOf}
 use Rattle.diameter.specs.Walk.{Walk, avp, walk, someAvp}
 use Rattle.diameter.specs.Put.{glue, Piece, bytesOf, avpsOf, Whole, All}
 use Rattle.reading.specs.declared.Dialect.{Dialect}
 use Rattle.reading.specs.Features.{isFeatures, asksBeyond, callsList}
-use Rattle.reading.specs.Kinds.{publicIdentity, supportedFeatures}
+use Rattle.reading.specs.Kinds.{sh, publicIdentity, supportedFeatures}
 use Rattle.reading.specs.Rules.{Seen}
 use Rattle.reading.specs.Verdicts.{faultAt}
 use Rattle.requests.specs.Judged.{Judged, bad, judge}
@@ -31,7 +30,7 @@ use Rattle.demands.proofs.Rows as rows
 pub use Rattle.demands.proofs.Rows.{quiet-foreign, none-before}
 
 -- the folds that pass over unknown kinds: the identities, which every command of Cx knows, and the copies
-foreign-identities : (dialect : Dialect) → (dialect .command ≡ 306 → ⊥) → {qs rs : List Piece} → Inserted (Foreign dialect) qs rs → (w : Walk)
+foreign-identities : (dialect : Dialect) → (dialect .terms .application ≡ sh → ⊥) → {qs rs : List Piece} → Inserted (Foreign dialect) qs rs → (w : Walk)
     → identities (glue (avpsOf rs) w) ≡ identities (glue (avpsOf qs) w)
 unfolding identities
 foreign-identities dialect other =
@@ -98,7 +97,7 @@ module _ (head : List ℕ) (twenty : length head ≡ 20) (q : Piece) (qs rs : Li
           beyond = λ set. foreign-features (asksBeyond set) (λ a e. beyond-features set a e) (keep q i) (walk tail);
         })
 
-    both-named : (commandOf head ≡ 306 → ⊥) → identities (walk long) ≡ identities (walk short)
+    both-named : (x .terms .application ≡ sh → ⊥) → identities (walk long) ≡ identities (walk short)
     unfolding avpsOf glue
     both-named other = rw (long-walk, short-walk) (foreign-identities spoken other (keep q i) (walk tail))
 

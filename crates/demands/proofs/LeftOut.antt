@@ -5,7 +5,7 @@ use Rattle.diameter.specs.Avp.{padded}
 use Rattle.diameter.specs.Walk.{Walk, ended, faulty, avp}
 use Rattle.diameter.specs.Put.{glue}
 use Rattle.pen.specs.Bytes.{ifThere}
-use Rattle.reading.specs.Kinds.{known, rowOf, kindOf, useIn, useOf, sessionId, publicIdentity}
+use Rattle.reading.specs.Kinds.{known, rowOf, kindOf, useIn, useOf, cx, sessionId, publicIdentity}
 use Rattle.reading.specs.Rules.{Seen, ruleBy, rule}
 use Rattle.reading.specs.Verdicts.{faultAt, lackOf, faultOf}
 use Rattle.reading.specs.declared.Dialect.{Dialect}
@@ -48,10 +48,10 @@ pub record Follows (j : Judged) (u : Seen) : Type 0 where
   pub is : j ≡ fine seen
   pub beside : Beside u seen
 
-module _ (d : Dialect) (sar : d .command ≡ 301) where
+module _ (d : Dialect) (on : d .terms .application ≡ cx) (sar : d .command ≡ 301) where
   repeated : useIn d (rowOf publicIdentity) ≡ Repeated
   unfolding useIn rowOf known
-  repeated = rw sar
+  repeated = rw (on, sar)
 
   rule-beside : (s r : Seen) → Beside s r → (a : List ℕ) → rule d s a ≡ rule d r a
   unfolding rule ruleBy
@@ -98,6 +98,7 @@ module _ (d : Dialect) (sar : d .command ≡ 301) where
   unfolding missing missingFrom known useIn
   missing-beside s r b =
       rw (
+        on,
         sar,
         beside-at s r b 1 (omega arith),
         beside-at s r b 2 (omega arith),
@@ -126,7 +127,7 @@ module _ (d : Dialect) (sar : d .command ≡ 301) where
       go false m e = fine-bad u (lackOf (missing d s)) e
 
 -- The body of a request, and the same without one of its Public-Identities: the first is of another kind, by (b).
-module _ (d : Dialect) (sar : d .command ≡ 301) (head one : List ℕ) (identity : kindOf one ≡ publicIdentity) (w : Walk) where
+module _ (d : Dialect) (on : d .terms .application ≡ cx) (sar : d .command ≡ 301) (head one : List ℕ) (identity : kindOf one ≡ publicIdentity) (w : Walk) where
   pub read-left : (q : List ℕ) (qs : List (List ℕ)) (u : Seen) → readBody d head (glue (q ∷ qs) (avp one w)) ≡ fine u
       → Follows (readBody d head (glue (q ∷ qs) w)) u
   unfolding readBody readBodyBy readWalk glue
@@ -139,7 +140,7 @@ module _ (d : Dialect) (sar : d .command ≡ 301) (head one : List ℕ) (identit
       go false y e = fine-bad u (faultOf (headerFault d head)) e
       go true true e = fine-bad u (lackOf sessionId) e
       go true false e =
-          complete-beside d sar _ _ u (λ v f. judge-left d sar one identity w (q ∷ qs) 20 20 nothing nothing v refl f) e
+          complete-beside d on sar _ _ u (λ v f. judge-left d on sar one identity w (q ∷ qs) 20 20 nothing nothing v refl f) e
 
   pub read-first : (u : Seen) → readBody d head (avp one w) ≡ fine u → ⊥
   unfolding readBody readBodyBy readWalk

@@ -5,8 +5,8 @@ pub mod Barring
 pub mod Blaming
 pub mod Cuts
 pub mod Demands
-pub mod Disagreeing
 pub mod Dialects
+pub mod Disagreeing
 pub mod Editions
 pub mod Effects
 pub mod Faults
@@ -15,6 +15,7 @@ pub mod Firm
 pub mod Fitting
 pub mod Frame
 pub mod Insertions
+pub mod Knowing
 pub mod LeftOut
 pub mod Longer
 pub mod Members

@@ -15,18 +15,18 @@ use Rattle.demands.proofs.Blaming.{blamingTable, blaming-over}
 use Rattle.demands.proofs.Insertions.{none-before, unmarked-same, both-refused, marked-kept, mark-answered, fault-more}
 
 -- none is marked
-record None {dialect : Dialect} {qs rs : List Piece} (i : Inserted (Foreign dialect) qs rs) : Type 0 where
-  is : firstMark i ≡ none
-  quiet : Inserted (Quiet dialect) qs rs
-  before : (at p : ℕ) → putBefore quiet at p ≡ putBefore i at p
+pub record None {dialect : Dialect} {qs rs : List Piece} (i : Inserted (Foreign dialect) qs rs) : Type 0 where
+  pub is : firstMark i ≡ none
+  pub quiet : Inserted (Quiet dialect) qs rs
+  pub before : (at p : ℕ) → putBefore quiet at p ≡ putBefore i at p
 
 -- the mark that is found, with the rows around it; before an AVP in front of it stand unmarked ones alone
-record MarkFound {dialect : Dialect} {qs rs : List Piece} (i : Inserted (Foreign dialect) qs rs) : Type 0 where
-  first : FirstMarked dialect qs rs
-  is : firstMark i ≡ some (record { front = first .front; before = first .before; mark = first .mark })
-  before : (at p : ℕ) → at ≤ p → p < past at (avpsOf (first .front)) → putBefore (first .quiet) at p ≡ putBefore i at p
+pub record MarkFound {dialect : Dialect} {qs rs : List Piece} (i : Inserted (Foreign dialect) qs rs) : Type 0 where
+  pub first : FirstMarked dialect qs rs
+  pub is : firstMark i ≡ some (record { front = first .front; before = first .before; mark = first .mark })
+  pub before : (at p : ℕ) → at ≤ p → p < past at (avpsOf (first .front)) → putBefore (first .quiet) at p ≡ putBefore i at p
 
-abbrev Split : {dialect : Dialect} {qs rs : List Piece} → Inserted (Foreign dialect) qs rs → Type 0
+abbrev pub Split : {dialect : Dialect} {qs rs : List Piece} → Inserted (Foreign dialect) qs rs → Type 0
 Split {dialect} {qs} {rs} i = None i ⊎ MarkFound i
 
 split-keep : (q : Piece) {dialect : Dialect} {qs rs : List Piece} (i : Inserted (Foreign dialect) qs rs) → Split i → Split (keep q i)
@@ -105,7 +105,7 @@ split-put u f {qs} {rs} i s true h =
     })
 split-put u f i s false h = split-quiet u f h i s
 
-split : {dialect : Dialect} {qs rs : List Piece} (i : Inserted (Foreign dialect) qs rs) → Split i
+pub split : {dialect : Dialect} {qs rs : List Piece} (i : Inserted (Foreign dialect) qs rs) → Split i
 unfolding firstMark putBefore
 split ending = inl (record { is = refl; quiet = ending; before = λ at p. refl })
 split (keep q i) = split-keep q i (split i)
@@ -117,6 +117,22 @@ marked-or-not {dialect} {qs} {rs} i = go (split i)
     go : Split i → Inserted (Quiet dialect) qs rs ⊎ FirstMarked dialect qs rs
     go (inl n) = inl (n .quiet)
     go (inr f) = inr (f .first)
+
+-- what was put in before a place, by the row in front alone; and where none is marked
+pub found-before : {dialect : Dialect} (q : Piece) {qs rs : List Piece} (i : Inserted (Foreign dialect) qs rs) (f : MarkFound i) (p : ℕ) → 20 ≤ p
+    → p < past 20 (avpsOf (q ∷ f .first .front)) → putBefore (keep q (f .first .quiet)) 20 p ≡ putBefore (keep q i) 20 p
+unfolding putBefore avpsOf past
+found-before q i f p l h = go (ltb p (20 + sizeOf q)) refl
+  where
+    go : (x : Bool) → ltb p (20 + sizeOf q) ≡ x
+        → cond x 0 (putBefore (f .first .quiet) (20 + sizeOf q) p) ≡ cond x 0 (putBefore i (20 + sizeOf q) p)
+    go true e = refl
+    go false e = f .before (20 + sizeOf q) p (ltb-false p (20 + sizeOf q) e) h
+
+pub none-now : {dialect : Dialect} (q : Piece) {qs rs : List Piece} (i : Inserted (Foreign dialect) qs rs) (n : None i)
+    → placeNow (keep q (n .quiet)) ≡ placeNow (keep q i)
+unfolding putBefore
+none-now q i n = fun-ext (λ p. rw (n .before (20 + sizeOf q) p))
 
 -- what a call with them comes to over a table of its exact length; over an area it is `newer`
 unfoldable newerTable : (x : Lent) → List ℕ → List ℕ → Piece → (ℕ → ℕ) → Option Mark → Served
@@ -148,29 +164,17 @@ module _ (head : List ℕ) (twenty : length head ≡ 20) (q : Piece) (qs rs : Li
   abbrev now : ℕ → ℕ
   now = placeNow (keep q i)
 
-  -- what was put in before a place, by the row in front alone
-  found-before : (f : MarkFound i) (p : ℕ) → 20 ≤ p → p < past 20 (avpsOf (q ∷ f .first .front))
-      → putBefore (keep q (f .first .quiet)) 20 p ≡ putBefore (keep q i) 20 p
-  unfolding putBefore avpsOf past
-  found-before f p l h = go (ltb p (20 + sizeOf q)) refl
-    where
-      go : (x : Bool) → ltb p (20 + sizeOf q) ≡ x
-          → cond x 0 (putBefore (f .first .quiet) (20 + sizeOf q) p) ≡ cond x 0 (putBefore i (20 + sizeOf q) p)
-      go true e = refl
-      go false e = f .before (20 + sizeOf q) p (ltb-false p (20 + sizeOf q) e) h
-
   marked-newer : (f : MarkFound i) (y z : Bool) → turnedAway short ≡ y → faultIn (dialectOf (x .terms) head) head (q ∷ f .first .front) ≡ z
       → serveTable long ≡ cond (y || z) (placed now (serveTable short)) (blamingTable long 5001 (f .first .mark .avp) (behindRow (q ∷ f .first .before)))
   marked-newer f true z a b = both-refused head twenty q qs rs whole tail fours most x i now a
   marked-newer f false true a b =
-      fault-more head twenty q qs rs whole tail fours most x (f .first) (putBefore (keep q i) 20) (none-before q i) (found-before f) b
+      fault-more head twenty q qs rs whole tail fours most x (f .first) (putBefore (keep q i) 20) (none-before q i) (found-before q i f) b
   marked-newer f false false a b = mark-answered head twenty q qs rs whole tail fours most x (f .first) b a
 
   row-newer : Split i → serveTable long ≡ newerTable short (long .request) head q now (firstMark i)
-  unfolding newerTable putBefore
+  unfolding newerTable
   row-newer (inl n) =
-      let same : (p : ℕ) → placeNow (keep q (n .quiet)) p ≡ now p = λ p. rw (n .before (20 + sizeOf q) p) in
-      rw (n .is) (unmarked-same head twenty q qs rs whole tail fours most x (n .quiet) ∙ ap (λ (f : ℕ → ℕ). placed f (serveTable short)) (fun-ext same))
+      rw (n .is) (unmarked-same head twenty q qs rs whole tail fours most x (n .quiet) ∙ ap (λ (f : ℕ → ℕ). placed f (serveTable short)) (none-now q i n))
   row-newer (inr f) = rw (f .is) (marked-newer f (turnedAway short) (faultIn (dialectOf (x .terms) head) head (q ∷ f .first .front)) refl refl)
 
   row-kept : Split i → (m : Mark) → firstMark i ≡ some m → (serveTable long .table ≡ x .table) × (serveTable long .vectors ≡ x .vectors)

@@ -10,10 +10,10 @@ use Rattle.reading.specs.declared.Terms.{Terms}
 use Rattle.reading.specs.Features.{asksBeyond}
 use Rattle.requests.specs.Features.{beyondSet, calledIn, listCalled}
 use Rattle.requests.specs.Judged.{Judged, bad}
-use Rattle.requests.proofs.Kept.{read-command}
+use Rattle.requests.proofs.Kept.{read-spoken}
 use Rattle.diameter.specs.Message.{commandOf, bodyOf}
 use Rattle.reading.specs.Verdicts.{faultOf}
-use Rattle.requests.specs.Request.{dialectOf, spoken, headerFaultBy, headerFault, readWalk, readIn, identities, sessionOf}
+use Rattle.requests.specs.Request.{dialectOf, sh, spoken, headerFaultBy, headerFault, readWalk, readIn, identities, sessionOf}
 use Rattle.choices.specs.Given.{givenFault}
 use Rattle.choices.specs.declared.Given.{Given}
 use Rattle.deciding.specs.Rules.{inForce}
@@ -234,8 +234,8 @@ module _ (x : Lent) (head : List ℕ) (twenty : length head ≡ 20) (b c : List 
   answered-same h d e s p = rw (answer-same (x .table) (x .profile) (x .vectors) (d .given) (e .given) (s .given), s .table, s .vectors, p)
 
   module _ {from : ℕ} {more : ℕ → ℕ} (none : more 0 ≡ 0) (read : Moved long short from more (readBody dialect head (walk b)) (readBody dialect head (walk c)))
-      (named : (commandOf head ≡ 306 → ⊥) → identities (walk b) ≡ identities (walk c)) where
-    both-named : (commandOf head ≡ 306 → ⊥) → identities (bodyOf long) ≡ identities (bodyOf short)
+      (named : (x .terms .application ≡ sh → ⊥) → identities (walk b) ≡ identities (walk c)) where
+    both-named : (x .terms .application ≡ sh → ⊥) → identities (bodyOf long) ≡ identities (bodyOf short)
     both-named other = rw (message-body head twenty b, message-body head twenty c) (named other)
 
     judged-same : (t : List ℕ) (count : ℕ) (v : List ℕ) {j k : Judged} → readIn dialect short ≡ k → Moved long short from more j k
@@ -246,7 +246,7 @@ module _ (x : Lent) (head : List ℕ) (twenty : length head ≡ 20) (b c : List 
         rw beyond-same
         (each (SameDecision long short) (beyondSet (x .terms) short)
         (record { given = blameless-same long short (givenFault featureUnsupported) (refl, refl); table = refl; vectors = refl })
-        (plan-same long short t count v seen (both-named (λ z. omega (arith, z, read-command dialect short seen is))) dialect is))
+        (plan-same long short t count v seen (both-named (λ z. omega (arith, z, read-spoken dialect short seen is .0))) dialect is))
 
     -- the place is the verdict's, or both have none
     judged-place : (t : List ℕ) (count : ℕ) (v : List ℕ) {j k : Judged} → Moved long short from more j k

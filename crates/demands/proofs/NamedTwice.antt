@@ -14,8 +14,9 @@ use Rattle.reading.specs.Kinds.{kindOf, publicIdentity, userName, serverName, a
 use Rattle.reading.specs.Rules.{Seen}
 use Rattle.requests.specs.Features.{beyondSet, calledIn}
 use Rattle.requests.specs.Judged.{fine}
-use Rattle.requests.specs.Request.{dialectOf, identities, sessionOf, dataSeen}
+use Rattle.requests.specs.Request.{dialectOf, cx, identities, sessionOf, dataSeen}
 use Rattle.requests.specs.Identity.{placesFrom}
+use Rattle.requests.proofs.Kept.{read-spoken}
 use Rattle.requests.proofs.Naming.{identities-at}
 use Rattle.assignment.specs.Assignment.{Assignment, assign}
 use Rattle.deciding.specs.Plans.{numbersIn, assignmentOf, sarPlan, planRead}
@@ -133,6 +134,9 @@ module _ (head : List ℕ) (twenty : length head ≡ 20) (before : List Piece) (
     sar : d .command ≡ 301
     sar = removes .sar
 
+    on : d .terms .application ≡ cx
+    on = read-spoken d (message head long) (removes .seen) (removes .read .read) .0
+
     read-long : readBody d head (glue (avpsOf before) (avp (one .avp) rest)) ≡ fine (removes .seen)
     read-long = ap (readBody d head) (sym long-walk) ∙ sym (message-read d head twenty long) ∙ removes .read .read
 
@@ -141,7 +145,7 @@ module _ (head : List ℕ) (twenty : length head ≡ 20) (before : List Piece) (
     begun z = go before refl z read-long
       where
         go : (qs : List Piece) → before ≡ qs → length qs ≡ 0 → readBody d head (glue (avpsOf qs) (avp (one .avp) rest)) ≡ fine (removes .seen) → ⊥
-        go [] e z r = read-first d sar head (one .avp) identity rest (removes .seen) r
+        go [] e z r = read-first d on sar head (one .avp) identity rest (removes .seen) r
         go (q ∷ qs) e z r = omega arith
 
     read-short : Follows (readBody d head (glue (avpsOf before) rest)) (removes .seen)
@@ -151,7 +155,7 @@ module _ (head : List ℕ) (twenty : length head ≡ 20) (before : List Piece) (
         go : (qs : List Piece) → (length qs ≡ 0 → ⊥) → readBody d head (glue (avpsOf qs) (avp (one .avp) rest)) ≡ fine (removes .seen)
             → Follows (readBody d head (glue (avpsOf qs) rest)) (removes .seen)
         go [] n r = absurd (n refl)
-        go (q ∷ qs) n r = read-left d sar head (one .avp) identity rest (q .avp) (avpsOf qs) (removes .seen) r
+        go (q ∷ qs) n r = read-left d on sar head (one .avp) identity rest (q .avp) (avpsOf qs) (removes .seen) r
 
     read-fewer : Decides d (message head short) (read-short .seen)
     unfolding beyondSet

@@ -17,7 +17,7 @@ use Rattle.demands.specs.Peers.{byPeer, OneVendor}
 use Rattle.demands.proofs.Editions.{older, newer, walk-same, read-same, decide-same}
 
 -- the same refusals, and the same answer where none is given
-pub tried-same : (give other : Trial → Served) (o p : Served) → ((r : Trial) → give r ≡ other r) → (rs : List Trial) → (anyHolds rs ≡ false → o ≡ p)
+pub tried-same : {X : Type 0} (give other : Trial → X) (o p : X) → ((r : Trial) → give r ≡ other r) → (rs : List Trial) → (anyHolds rs ≡ false → o ≡ p)
     → tried give o rs ≡ tried other p rs
 unfolding tried anyHolds
 tried-same give other o p same [] h = h refl

@@ -1,23 +1,21 @@
 -- What a request wants of features: the tests of the definitions, and what they say of its AVPs, in both directions.
-use Rattle.octets.specs.Standard.{ℕ, _/_, _%_, List, Bool, true, false, cond, not, _&&_, _||_, true≢false, _≡_, refl, sym, ap, _∙_, _⊎_, inl, inr, _≢_}
-use Rattle.octets.specs.Standard.{arith, leb, leb-true, eqb, eqb-true, eqb-false, eq-eqb, ne-eqb, getD, none}
+use Rattle.octets.specs.Standard.{ℕ, List, Bool, true, false, not, _||_, true≢false, _≡_, refl, sym, _∙_, _⊎_, inl, inr, _≢_}
+use Rattle.octets.specs.Standard.{arith, eqb, eqb-true, eqb-false, eq-eqb, ne-eqb}
 use Rattle.octets.specs.All.{allBelow}
 use Rattle.octets.proofs.All.{and-left, and-right, all-at}
-use Rattle.diameter.specs.Avp.{avpFlags, dataOf, reserved, marked}
-use Rattle.diameter.specs.AvpAt.{present}
-use Rattle.diameter.specs.Message.{versionOf, messageFlags, bodyOf}
+use Rattle.diameter.specs.Avp.{avpFlags, dataOf, marked}
+use Rattle.diameter.specs.Message.{bodyOf}
 use Rattle.diameter.specs.Walk.{Walk, ended, faulty, avp, walk, someAvp, behindFirst}
 use Rattle.reading.specs.Features.{isFeatures, bitOf, clearOrIn, bitOutside, asksOther, asks, asksBeyond, passes, callsList}
-use Rattle.reading.specs.Groups.{featureMembers, membersOf, gathers, tooOften, groupFault}
-use Rattle.reading.specs.Kinds.{known, kindOf, rowOf, useIn, useOf, isUnknown, supportedFeatures}
-use Rattle.reading.specs.Rules.{Seen, contentFault, ofContent, ruleBy, rule}
+use Rattle.reading.specs.Kinds.{kindOf, useOf, isUnknown, sh, supportedFeatures}
+use Rattle.reading.specs.Rules.{Seen}
 use Rattle.reading.specs.declared.Dialect.{Dialect}
-use Rattle.reading.specs.declared.Ruled.the-variants.{Taken, Fault}
-use Rattle.reading.specs.declared.Use.{Use}
-use Rattle.reading.specs.declared.Use.the-variants.{Unnamed, Repeated}
 use Rattle.requests.specs.Features.{beyondSet, listCalled}
 use Rattle.requests.specs.Judged.{fine}
-use Rattle.requests.specs.Request.{cx, spoken, headerFault, readIn}
+use Rattle.requests.specs.Request.{headerFault, readIn}
+use Rattle.requests.proofs.Featured.{passes-taken, taken-passes}
+use Rattle.requests.proofs.Insert.{features-known}
+use Rattle.requests.proofs.Kept.{header-spoken}
 use Rattle.calling.specs.Lent.{Lent, dialectIn}
 use Rattle.taking.proofs.Conditions.{all-fails}
 use Rattle.demands.specs.Features.{Among, here, later, vendorIn, listIn, bitsIn, Outside, Asks, Beyond, Called}
@@ -129,74 +127,13 @@ pub beyond-holds : (a : Lent) → Beyond a → beyondSet (a .terms) (a .request)
 unfolding beyondSet
 beyond-holds a b = some-holds (asksBeyond (a .terms .features)) (bodyOf (a .request)) (b .one) (b .among) (asks-holds (a .terms .features) (b .one) (b .asks))
 
--- THE RULES, of a 628: it is named and may come again in every command of Cx, so that (c) and (h) alone decide
-module _ (d : Dialect) (a : List ℕ) (k : kindOf a ≡ supportedFeatures) (other : d .command ≡ 306 → ⊥) where
-  pub repeated : useOf d a ≡ Repeated
-  unfolding useIn rowOf known
-  repeated = rw (k, ne-eqb (d .command) 306 other) (go (eqb (d .command) 300) (eqb (d .command) 301) (eqb (d .command) 302))
-    where
-      go : (x y z : Bool) → cond x Repeated (cond y Repeated (cond z Repeated Repeated)) ≡ Repeated
-      go true y z = refl
-      go false true z = refl
-      go false false true = refl
-      go false false false = refl
-
-  content-is : contentFault d (rowOf (kindOf a) .content) a ≡ cond (gathers featureMembers (walk (dataOf a))) 0 5004
-  unfolding contentFault groupFault tooOften membersOf rowOf known
-  content-is = rw k
-
-  pub rule-is : (seen : Seen) → rule d seen a
-      ≡ cond (not (eqb (reserved (avpFlags a)) 0)) (Fault 3009) (cond (gathers featureMembers (walk (dataOf a))) Taken (Fault 5004))
-  unfolding rule ruleBy
-  rule-is seen =
-      ap (λ (n : ℕ). ruleBy (useOf d a) (present (getD seen (kindOf a) none)) (avpFlags a) n) content-is
-      ∙ ap (λ (u : Use). ruleBy u (present (getD seen (kindOf a) none)) (avpFlags a) (cond (gathers featureMembers (walk (dataOf a))) 0 5004)) repeated
-      ∙ go (eqb (reserved (avpFlags a)) 0) (gathers featureMembers (walk (dataOf a)))
-    where
-      go : (x y : Bool) → cond (not x) (Fault 3009) (ofContent (cond y 0 5004)) ≡ cond (not x) (Fault 3009) (cond y Taken (Fault 5004))
-      go false y = refl
-      go true true = refl
-      go true false = refl
-
-  pub passes-taken : passes a ≡ true → (seen : Seen) → rule d seen a ≡ Taken
-  unfolding passes
-  passes-taken e seen =
-      rule-is seen ∙ rw (and-left (eqb (reserved (avpFlags a)) 0) _ e, and-right (eqb (reserved (avpFlags a)) 0) (gathers featureMembers (walk (dataOf a))) e)
-
-  pub taken-passes : (seen : Seen) → rule d seen a ≡ Taken → passes a ≡ true
-  unfolding passes
-  taken-passes seen e = go (eqb (reserved (avpFlags a)) 0) (gathers featureMembers (walk (dataOf a))) (sym (rule-is seen) ∙ e)
-    where
-      go : (x y : Bool) → cond (not x) (Fault 3009) (cond y Taken (Fault 5004)) ≡ Taken → (x && y) ≡ true
-      go true true f = refl
-      go true false f = let z : _≡_ {A = ℕ} 0 1 = cc in absurd (omega arith)
-      go false y f = let z : _≡_ {A = ℕ} 0 1 = cc in absurd (omega arith)
-
 -- In no command is it unknown: Sh knows it and does not name it.
 pub never-unknown : (d : Dialect) (a : List ℕ) → kindOf a ≡ supportedFeatures → isUnknown (useOf d a) ≡ false
-unfolding useIn rowOf known
-never-unknown d a k = rw k (go (eqb (d .command) 300) (eqb (d .command) 301) (eqb (d .command) 302) (eqb (d .command) 306))
-  where
-    go : (x y z w : Bool) → isUnknown (cond x Repeated (cond y Repeated (cond z Repeated (cond w Unnamed Repeated)))) ≡ false
-    go true y z w = refl
-    go false true z w = refl
-    go false false true w = refl
-    go false false false true = refl
-    go false false false false = refl
+never-unknown d a k = rw k (features-known d)
 
--- THE OWN LIST. A header without a fault has a command of Cx.
-unspoken : (version error : Bool) → _≡_ {A = ℕ} (cond version 5011 (cond error 3008 3001)) 0 → ⊥
-unspoken true error e = omega arith
-unspoken false true e = omega arith
-unspoken false false e = omega arith
-
-pub of-cx : (d : Dialect) (req : List ℕ) → headerFault d req ≡ 0 → d .command ≡ 306 → ⊥
-unfolding headerFault
-of-cx d req e c = go (spoken d) refl
-  where
-    go : (x : Bool) → spoken d ≡ x → ⊥
-    go true f = omega (arith, c, leb-true (d .command) 303 (and-right (eqb (d .terms .application) cx && leb 300 (d .command)) _ f))
-    go false f = unspoken (not (eqb (versionOf req) 1)) (eqb (messageFlags req / 32 % 2) 1) (rw f at e)
+-- THE OWN LIST. A header without a fault is one of Cx.
+pub of-cx : (d : Dialect) (req : List ℕ) → headerFault d req ≡ 0 → d .terms .application ≡ sh → ⊥
+of-cx d req e s = omega (arith, s, header-spoken d req e .0)
 
 pub called-says : (a : Lent) → listCalled (a .terms) (a .request) ≡ true → Called a
 unfolding listCalled callsList

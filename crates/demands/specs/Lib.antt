@@ -2,6 +2,7 @@ pub mod Call
 pub mod Features
 pub mod Frame
 pub mod Insertion
+pub mod Knowing
 pub mod Peers
 pub mod Place
 pub mod Sets

@@ -50,12 +50,16 @@ abbrev pub OfRules : ℕ → Type 0
 OfRules n = (n ≡ 5014) ⊎ (n ≡ 3009) ⊎ (n ≡ 5001) ⊎ (n ≡ 5009) ⊎ (n ≡ 5004)
 
 -- An AVP of a request is at fault, with a result n, at a place: the header has no fault, (b) none either, and this AVP is the first that has one.
-pub record AtFault (d : Dialect) (req : List ℕ) (n place : ℕ) : Type 0 where
-  pub header : headerFault d req ≡ 0
+-- The header's fault is the server's that reads.
+pub record AtFaultBy (fault : ℕ) (d : Dialect) (req : List ℕ) (n place : ℕ) : Type 0 where
+  pub header : fault ≡ 0
   pub session : firstOther (bodyOf req) ≡ false
   pub seen : Seen
   pub reached : ReadingReaches d req place seen
   pub breaks : Breaks d req seen place n
+
+abbrev pub AtFault : Dialect → List ℕ → ℕ → ℕ → Type 0
+AtFault d req = AtFaultBy (headerFault d req) d req
 
 -- a call that is not refused, of a request in which the AVP at a place is at fault
 pub record Blames (x : Lent) (place : ℕ) : Type 0 where

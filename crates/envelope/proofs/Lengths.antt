@@ -1,5 +1,5 @@
 -- How long the parts of every answer are at the most.
-use Rattle.octets.specs.Standard.{ℕ, _+_, _≤_, List, Bool, true, false, cond, Option, none, some, _≡_, arith, length, drop, length-append, length-take}
+use Rattle.octets.specs.Standard.{ℕ, _+_, _≤_, List, Bool, true, false, cond, none, some, _≡_, arith, length, drop, length-append, length-take}
 use Rattle.octets.specs.Standard.{length-drop, ltb}
 use Rattle.record.specs.Fields.{hostOf, realmOf}
 use Rattle.blocks.specs.Blocks.{blockOf}

@@ -1,5 +1,5 @@
 -- Demand 3: its hypotheses can be met by a SAR and what is put into it, computed.
-use Rattle.octets.specs.Standard.{ℕ, _≡_, refl, ap, _∙_, false, List, [], _∷_, _++_, Option, none, _⊎_, lit≤}
+use Rattle.octets.specs.Standard.{ℕ, _≡_, refl, ap, _∙_, true, false, List, [], _∷_, _++_, Option, none, _⊎_, lit≤}
 use Rattle.octets.proofs.Numbers.{allBytes, are-bytes}
 use Rattle.diameter.specs.Put.{Piece}
 use Rattle.pen.specs.Bytes.{wordBytes, headBytes, vendorHead, numberBytes}
@@ -12,12 +12,15 @@ use Rattle.calling.specs.Trial.{anyHolds}
 use Rattle.calling.proofs.Areas.{serve-sound}
 use Rattle.worked_examples.proofs.Computed.{knownTrials, come, held, roomy, no-vectors}
 use Rattle.worked_examples.proofs.Sample.{room, answer, s}
+use Rattle.reading.specs.Kinds.{useOf, isUnknown}
 use Rattle.requests.specs.Request.{dialectOf, underCx}
 use Rattle.demands.specs.Call.{turnedAway}
 use Rattle.demands.specs.Insertion.{requestOf, Foreign, Quiet, Inserted, ending, keep, put, putBefore, placeNow, placed, FirstMarked, Cut, Longer}
 use Rattle.demands.specs.Insertion.{Mark, firstMark, newer}
+use Rattle.demands.specs.Knowing.{isAmong, kindsOfCx, kindsOf}
 use Rattle.demands.proofs.Demands.{demand-3, demand-3-unmarked, demand-3-table, demand-3-marked, demand-3-fault, demand-3-cases, demand-3-any}
-use Rattle.instances.proofs.Asked.{table, removed, vendor, head, session, application, common, own, rest, sar, asked, comesTo, comes, blamed}
+use Rattle.demands.proofs.Demands.{demand-3-kinds, demand-3-others}
+use Rattle.instances.proofs.Asked.{table, removed, vendor, headOf, head, session, application, common, own, rest, sar, asked, comesTo, comes, blamed}
 use Rattle.instances.proofs.Asked.{plain, zeroVendor, loud, all, isWhole, allWhole, all-whole, kept, of-area}
 use Rattle.instances.proofs.Calls.{sound-table, removed-so}
 
@@ -246,3 +249,15 @@ met-3-loudly = demand-3 (asked (sar s 5)) (requestOf head (session ∷ loudly) [
 met-3-left : serve (asked (requestOf head (session ∷ loudly) [])) .table ≡ table
 unfolding all loudly longer-loudly cut-sar firstMark kept
 met-3-left = demand-3 (asked (sar s 5)) (requestOf head (session ∷ loudly) []) longer-loudly .table _ refl
+
+-- The kinds that are known: the same under a command that is the Sh server's, so that its 700 is unknown here.
+other-command : Lent
+other-command = asked (requestOf (headOf 0x32) (session ∷ rest s 5) [])
+
+met-3-kinds : kindsOf (record { command = 306; terms = underCx 3588 0 }) ≡ kindsOfCx
+unfolding all other-command
+met-3-kinds = demand-3-kinds other-command refl
+
+met-3-others : isUnknown (useOf (record { command = 306; terms = underCx 3588 0 }) (vendor 700 (0x61 ∷ []) .avp)) ≡ true
+unfolding all other-command isAmong
+met-3-others = demand-3-others other-command refl (vendor 700 (0x61 ∷ []) .avp) refl

@@ -1,6 +1,6 @@
 -- What escaping a name leaves true: it is read back, nothing in it stands bare, and it is at most six times as long.
-use Rattle.octets.specs.Standard.{ℕ, suc, _+_, _*_, _≤_, Bool, true, false, _≡_, refl, ap, _⊎_, inl, inr, List, [], _∷_, _++_, arith, eqb, length}
-use Rattle.octets.specs.Standard.{length-append, eqb-true, eqb-false, ne-eqb}
+use Rattle.octets.specs.Standard.{ℕ, _+_, _*_, _≤_, Bool, true, false, _≡_, refl, ap, List, [], _∷_, _++_, arith, eqb, length}
+use Rattle.octets.specs.Standard.{length-append, eqb-true}
 use Rattle.markup.specs.Escapes.{escapes, escapeBy, escapeOf, escaped, begins, readBy, unescapedFrom, unescaped, isMarkup, beginsEscape, bareAt, noneBare}
 
 -- What holds of the five and of every other byte holds of each byte.

@@ -1,5 +1,5 @@
 -- A name is escaped byte by byte.
-use Rattle.octets.specs.Standard.{ℕ, suc, _+_, _-_, _≤_, _<_, _≡_, refl, ap, List, [], _∷_, _++_, arith, add-one, length, getD, drop, length-append, length-take}
+use Rattle.octets.specs.Standard.{ℕ, _+_, _-_, _≤_, _<_, _≡_, refl, ap, List, [], _∷_, _++_, arith, add-one, length, getD, drop, length-append, length-take}
 use Rattle.octets.specs.Standard.{length-drop, set, drop-cons, drop-of-length-le, ne-eqb, midOf, putMid}
 use Rattle.octets.specs.Run.{over, Wrote}
 use Rattle.octets.proofs.Writes.{Going, going-more, going-end, over-sets}

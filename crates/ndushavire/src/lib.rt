@@ -148,8 +148,8 @@ pub extern "C" fn ndushavire_take(area: &mut [u8], fresh: &[u8], profile: &[u8])
     take_word(taking::take(area, fresh, profile.len()))
 }
 
-// Which library was linked, so that a daemon can tell it from the header that it was compiled with: 0.13.0, as NDUSHAVIRE_VERSION_NUMBER has it.
-const VERSION: u32 = 1300;
+// Which library was linked, so that a daemon can tell it from the header that it was compiled with: 0.14.0, as NDUSHAVIRE_VERSION_NUMBER has it.
+const VERSION: u32 = 1400;
 
 #[no_mangle]
 pub extern "C" fn ndushavire_version() -> u32

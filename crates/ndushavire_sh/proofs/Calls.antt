@@ -1,10 +1,8 @@
 -- What each way through a call of the Sh server leaves.
-use Rattle.octets.specs.Standard.{ℕ, _+_, _*_, _/_, _%_, _≤_, _<_, List, Bool, true, false, cond, _≡_, refl, sym, _∙_, ap, arith, length}
-use Rattle.octets.specs.Run.{Wrote}
+use Rattle.octets.specs.Standard.{ℕ, _≤_, _<_, List, Bool, true, false, cond, _≡_, refl, sym, _∙_, ap, arith, length}
 use Rattle.blocks.specs.declared.Checked.{Checked}
 use Rattle.blocks.specs.declared.Checked.the-variants.{Sound, Bad}
 use Rattle.table.specs.Area.{tableIn, checkArea}
-use Rattle.table.specs.Check.{checkTable}
 use Rattle.table.specs.SoundTable.{SoundTable}
 use Rattle.table.proofs.Sound.{sound-few}
 use Rattle.reading.specs.declared.Dialect.{Dialect}
@@ -20,7 +18,7 @@ use Rattle.ndushavire.specs.Reads.{numberIn, valueIn}
 use Rattle.ndushavire.specs.Word.{word, checkWord}
 use Rattle.ndushavire_sh.specs.Lent.{Lent, lent, termsIn}
 use Rattle.ndushavire_sh.specs.Promise.{ShDecidePromise}
-use Rattle.ndushavire_sh.specs.Serve.{refused, answered, serveChecked, shServe}
+use Rattle.ndushavire_sh.specs.Serve.{refused, answered, serveChecked}
 
 -- the early refusals where none holds
 pub none-early : (req o : List ℕ) (peer : ℕ) (terms : Terms) {n : ℕ} → terms ≡ underSh peer → n ≡ early terms req o → n ≤ 0 → early (underSh peer) req o ≡ 0

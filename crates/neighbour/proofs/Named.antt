@@ -16,7 +16,7 @@ use Rattle.reading.specs.declared.Use.the-variants.{Needed}
 use Rattle.reading.specs.declared.Verdict.{Verdict}
 use Rattle.requests.specs.Judged.{nothing, Judged, bad, fine, onRule, judge}
 use Rattle.requests.specs.Request.{headerFault, firstOther, missing, complete, readWalk, readIn, given, dataIf, dataSeen, identities}
-use Rattle.requests.proofs.Kept.{read-needed, read-command}
+use Rattle.requests.proofs.Kept.{read-needed, read-spoken}
 
 bad-fine : {A : Type 0} (v : Verdict) (seen : Seen) → bad v ≡ fine seen → A
 bad-fine v seen e = let z : _≡_ {A = ℕ} 0 1 = cc in absurd (omega arith)
@@ -90,9 +90,8 @@ module _ (d : Dialect) (req : List ℕ) (seen : Seen) (read : readIn d req ≡ f
   needed : given seen publicIdentity ≡ true
   unfolding rowOf known useIn
   needed =
-      let r = read-command d req seen read in
       read-needed d req seen publicIdentity read (omega arith)
-      (rw (ne-eqb (d .command) 301 n, ne-eqb (d .command) 306 (λ z. omega (arith, z, r .1))) (go (eqb (d .command) 300) (eqb (d .command) 302)))
+      (rw (read-spoken d req seen read .0, ne-eqb (d .command) 301 n) (go (eqb (d .command) 300) (eqb (d .command) 302)))
     where
       go : (x y : Bool) → isNeeded (cond x Needed (cond y Needed Needed)) ≡ true
       go true y = refl

@@ -1,19 +1,20 @@
 -- 02 [11]: a request without Supported-Features is served as before, whatever the set. What the rules were is in specs/WithoutFeatures.
-use Rattle.octets.specs.Standard.{ℕ, _+_, List, [], append-nil, Bool, true, false, _&&_, _||_, _≡_, refl, sym, _∙_, length, eqb}
+use Rattle.octets.specs.Standard.{ℕ, _+_, List, [], append-nil, Bool, true, false, _&&_, _≡_, refl, sym, length, eqb}
 use Rattle.blocks.specs.Blocks.{blockOf}
 use Rattle.diameter.specs.Avp.{padded}
 use Rattle.diameter.specs.Message.{bodyOf}
-use Rattle.diameter.specs.Walk.{Walk, ended, faulty, avp, someAvp, behindFirst}
+use Rattle.diameter.specs.Walk.{Walk, ended, faulty, avp, someAvp}
 use Rattle.pen.specs.Bytes.{ifThere}
 use Rattle.pen.specs.Groups.{ownFeatures}
-use Rattle.reading.specs.Features.{isFeatures, asksBeyond, callsList}
+use Rattle.reading.specs.Features.{isFeatures}
 use Rattle.reading.specs.Rules.{Seen, rule}
 use Rattle.reading.specs.declared.Dialect.{Dialect}
 use Rattle.reading.specs.declared.Ruled.{Ruled}
 use Rattle.reading.specs.declared.Ruled.the-variants.{Taken, Skipped, Fault}
 use Rattle.reading.specs.declared.Terms.{Terms}
-use Rattle.requests.specs.Features.{beyondSet, calledIn, listCalled}
+use Rattle.requests.specs.Features.{calledIn, listCalled}
 use Rattle.requests.specs.Judged.{Judged, nothing, onRule, judge}
+use Rattle.requests.proofs.Featured.{none-beyond, none-called}
 use Rattle.requests.specs.Request.{dialectOf, headerFault, readWalk, readIn}
 use Rattle.choices.specs.declared.Given.{Given}
 use Rattle.reply.specs.Pieces.{originBytes, listBytes, topBytes}
@@ -25,37 +26,14 @@ use Rattle.calling.specs.Serve.{serveTableBy, serveTable}
 use Rattle.older_rules.specs.WithoutFeatures.{NoFeatures, ruleBefore, judgeBefore, readBefore, bodyBefore, answerBefore, beforeFeatures}
 use Rattle.older_rules.proofs.Rules.{rules-same, decided-same}
 
--- where no AVP passes a test, none passes a test that asks more
-pub some-less : (p q : List ℕ → Bool) → ((a : List ℕ) → p a ≡ false → q a ≡ false) → (w : Walk) → someAvp p w ≡ false → someAvp q w ≡ false
-unfolding someAvp
-some-less p q h ended e = refl
-some-less p q h (faulty t) e = refl
-some-less p q h (avp a w) e =
-    let both = neither (p a) (someAvp p w) e in
-    rw (h a (both .0), some-less p q h w (both .1))
-
--- nor behind the first
-pub some-behind : (p : List ℕ → Bool) (w : Walk) → someAvp p w ≡ false → someAvp p (behindFirst w) ≡ false
-unfolding someAvp
-some-behind p ended e = refl
-some-behind p (faulty t) e = refl
-some-behind p (avp a w) e = neither (p a) (someAvp p w) e .1
-
+-- the own list
 module _ (terms : Terms) (req : List ℕ) (none : NoFeatures (bodyOf req)) where
-  pub none-beyond : beyondSet terms req ≡ false
-  unfolding beyondSet asksBeyond
-  none-beyond = some-less isFeatures (asksBeyond (terms .features)) (λ a e. rw e) (bodyOf req) none
-
-  none-called : calledIn (bodyOf req) ≡ false
-  unfolding callsList
-  none-called = some-behind callsList (bodyOf req) (some-less isFeatures callsList (λ a e. rw e) (bodyOf req) none)
-
   pub none-listed : listBytes terms req ≡ []
   unfolding listBytes listCalled ifThere
   none-listed = go (eqb (headerFault (dialectOf terms req) req) 0)
     where
       go : (x : Bool) → ifThere (x && calledIn (bodyOf req)) (ownFeatures (terms .features)) ≡ []
-      go true = rw none-called
+      go true = rw (none-called req none)
       go false = refl
 
 -- reading: what comes of an AVP is the same if what comes of those behind it is
@@ -92,5 +70,5 @@ pub without-features : (x : Lent) → NoFeatures (bodyOf (x .request)) → serve
 without-features x none =
     rules-same beforeFeatures inForce x refl (answer-same (x .terms) (x .request) (x .table) (x .profile) (x .vectors) none)
     (λ count e.
-    decided-same beforeFeatures inForce x count (read-same (dialectIn x) (x .request) none) (sym (none-beyond (x .terms) (x .request) none)) (λ seen. refl)
+    decided-same beforeFeatures inForce x count (read-same (dialectIn x) (x .request) none) (sym (none-beyond (x .request) none (x .terms))) (λ seen. refl)
     (λ seen d. refl))

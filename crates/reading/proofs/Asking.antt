@@ -1,5 +1,5 @@
 -- One Supported-Features: its bits, its members' numbers, and what it asks for.
-use Rattle.octets.specs.Standard.{ℕ, _+_, _/_, _%_, _^_, _≤_, _<_, _≡_, refl, sym, ap, _∙_, List, Bool, true, false, not, cond, _&&_, _||_, arith, length}
+use Rattle.octets.specs.Standard.{ℕ, _+_, _/_, _%_, _^_, _≤_, _<_, _≡_, refl, sym, ap, _∙_, List, Bool, true, false, not, _&&_, _||_, length}
 use Rattle.octets.specs.Standard.{eqb, ne-eqb}
 use Rattle.octets.specs.All.{allBelow}
 use Rattle.octets.proofs.All.{all-more, all-end}

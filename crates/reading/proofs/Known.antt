@@ -1,11 +1,15 @@
 -- The table of kinds read by its columns, and a kind's number by its vendor and code.
-use Rattle.octets.specs.Standard.{ℕ, zero, suc, _<_, _≤_, arith, _≡_, sym, _∙_, List, _∷_, and-false, List·getD-eq-default, ne-eqb, le-leb, lt-leb}
+use Rattle.octets.specs.Standard.{ℕ, zero, suc, _<_, _≤_, arith, _≡_, sym, ap, _∙_, List, _∷_, and-false, List·getD-eq-default, ne-eqb, le-leb, lt-leb}
 use Rattle.diameter.specs.Avp.{avpCode, vendorOf}
 use Rattle.diameter.specs.Reader.{ownOf, Here}
 use Rattle.diameter.specs.declared.Avp.{Avp}
 use Rattle.diameter.proofs.Reading.{own-flags}
 use Rattle.reading.specs.declared.Dialect.{Dialect}
 use Rattle.reading.specs.declared.Kind.{Kind}
+use Rattle.reading.specs.declared.Content.{Content}
+use Rattle.reading.specs.declared.Content.the-variants.{Free}
+use Rattle.reading.specs.declared.Uses.{Uses}
+use Rattle.reading.specs.declared.Use.the-variants.{Unknown}
 use Rattle.reading.specs.Kinds.{
   kinds,
   known,
@@ -15,6 +19,9 @@ use Rattle.reading.specs.Kinds.{
   kindBy,
   kindOf,
   useIn,
+  sh,
+  row,
+  everywhere,
   sessionId,
   application,
   sessionState,
@@ -40,46 +47,49 @@ use Rattle.reading.specs.Kinds.{
 
 -- the columns of the table
 module _ (d : Dialect) (k : Kind) where
-  pub in-uar : d .command ≡ 300 → k .uar ≡ useIn d k
+  pub in-udr : d .terms .application ≡ sh → k .uses .udr ≡ useIn d k
   unfolding useIn
-  in-uar e = rw e
+  in-udr e = rw e
 
-  pub in-sar : (d .command ≡ 300 → ⊥) → d .command ≡ 301 → k .sar ≡ useIn d k
-  unfolding useIn
-  in-sar h e = rw e
+  module _ (o : d .terms .application ≡ sh → ⊥) where
+    pub in-uar : d .command ≡ 300 → k .uses .uar ≡ useIn d k
+    unfolding useIn
+    in-uar e = rw (ne-eqb _ _ o, e)
 
-  pub in-lir : (d .command ≡ 300 → ⊥) → (d .command ≡ 301 → ⊥) → d .command ≡ 302 → k .lir ≡ useIn d k
-  unfolding useIn
-  in-lir h g e = rw e
+    pub in-sar : (d .command ≡ 300 → ⊥) → d .command ≡ 301 → k .uses .sar ≡ useIn d k
+    unfolding useIn
+    in-sar h e = rw (ne-eqb _ _ o, e)
 
-  pub in-udr : (d .command ≡ 300 → ⊥) → (d .command ≡ 301 → ⊥) → (d .command ≡ 302 → ⊥) → d .command ≡ 306 → k .udr ≡ useIn d k
-  unfolding useIn
-  in-udr h g f e = rw e
+    pub in-lir : (d .command ≡ 300 → ⊥) → (d .command ≡ 301 → ⊥) → d .command ≡ 302 → k .uses .lir ≡ useIn d k
+    unfolding useIn
+    in-lir h g e = rw (ne-eqb _ _ o, e)
 
-  pub in-mar : (d .command ≡ 300 → ⊥) → (d .command ≡ 301 → ⊥) → (d .command ≡ 302 → ⊥) → (d .command ≡ 306 → ⊥) → k .mar ≡ useIn d k
-  unfolding useIn
-  in-mar h g f e = rw (ne-eqb _ _ h, ne-eqb _ _ g, ne-eqb _ _ f, ne-eqb _ _ e)
+    pub in-mar : (d .command ≡ 300 → ⊥) → (d .command ≡ 301 → ⊥) → (d .command ≡ 302 → ⊥) → k .uses .mar ≡ useIn d k
+    unfolding useIn
+    in-mar h g f = rw (ne-eqb _ _ o, ne-eqb _ _ h, ne-eqb _ _ g, ne-eqb _ _ f)
 
--- the row of a number, and of a number that is no known kind's
-pub row-is : (n k : ℕ) {r : Kind} → k ≡ n → r ≡ rowOf n → r ≡ rowOf k
-row-is n k e d = d ∙ rw e
+-- the row of a number, made of its uses; and of a number that is no known kind's
+pub row-with : (n k : ℕ) {code vendor : ℕ} {content : Content} {u v : Uses} {r : Kind} → k ≡ n → u ≡ v → r ≡ row code vendor content u
+    → row code vendor content v ≡ rowOf n → r ≡ rowOf k
+row-with n k {code} {vendor} {content} e h d w = d ∙ ap (row code vendor content) h ∙ w ∙ rw e
 
 above : {n k : ℕ} → n ≤ k → (k ≡ n → ⊥) → suc n ≤ k
 above h e = omega arith
 
-pub row-past : (k : ℕ) {r : Kind} → r ≡ unknown → (k ≡ sessionId → ⊥) → (k ≡ application → ⊥) → (k ≡ sessionState → ⊥) → (k ≡ originHost → ⊥)
+pub row-past : (k : ℕ) {u : Uses} {r : Kind} → u ≡ everywhere Unknown → r ≡ row 0 0 Free u
+    → (k ≡ sessionId → ⊥) → (k ≡ application → ⊥) → (k ≡ sessionState → ⊥) → (k ≡ originHost → ⊥)
     → (k ≡ originRealm → ⊥) → (k ≡ destinationRealm → ⊥) → (k ≡ userName → ⊥) → (k ≡ publicIdentity → ⊥) → (k ≡ visitedNetwork → ⊥)
     → (k ≡ authDataItem → ⊥) → (k ≡ numberAuthItems → ⊥) → (k ≡ serverName → ⊥) → (k ≡ assignmentType → ⊥) → (k ≡ dataAvailable → ⊥)
     → (k ≡ authorizationType → ⊥) → (k ≡ destinationHost → ⊥) → (k ≡ proxyInfo → ⊥) → (k ≡ routeRecord → ⊥)
     → (k ≡ supportedFeatures → ⊥) → (k ≡ userIdentity → ⊥) → (k ≡ dataReference → ⊥) → r ≡ rowOf k
 unfolding rowOf known
-row-past zero e a b c d f g h i j l m n o p q s t u v w x = e
-row-past (suc k) e a b c d f g h i j l m n o p q s t u v w x =
+row-past zero y z a b c d f g h i j l m n o p q s t u v w x = z ∙ ap (row 0 0 Free) y
+row-past (suc k) y z a b c d f g h i j l m n o p q s t u v w x =
     let first : sessionId ≤ suc k = omega arith in
     let low : suc destinationRealm ≤ suc k = above (above (above (above (above (above first a) b) c) d) f) g in
     let middle : suc serverName ≤ suc k = above (above (above (above (above (above low h) i) j) l) m) n in
     let past : kinds ≤ suc k = above (above (above (above (above (above (above (above (above middle o) p) q) s) t) u) v) w) x in
-    e ∙ sym (List·getD-eq-default (unknown ∷ known) unknown past)
+    z ∙ ap (row 0 0 Free) y ∙ sym (List·getD-eq-default (unknown ∷ known) unknown past)
 
 -- a code that is none of them
 pub base-none : (code : ℕ) → (code ≡ 263 → ⊥) → (code ≡ 260 → ⊥) → (code ≡ 277 → ⊥) → (code ≡ 264 → ⊥) → (code ≡ 296 → ⊥) → (code ≡ 283 → ⊥) → (code ≡ 1 → ⊥)

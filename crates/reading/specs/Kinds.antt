@@ -1,5 +1,5 @@
--- "Known, vendor 0 without V: .. With V and 10415: .." and "Needed everywhere: ..": one table, with a column for each command. "known kinds grow by 607, a
--- 4-byte kind, and 612", and by 628. 02 [12]: a UDR has "its own list of known kinds", which is its column.
+-- "Known, vendor 0 without V: .. With V and 10415: .." and "Needed everywhere: ..": one table, with a column for each command of Cx. "known kinds grow by
+-- 607, a 4-byte kind, and 612", and by 628. 02 [12]: the Sh server has "its own list of known kinds", which is its column.
 use Prim.Native.Nat.{ℕ, suc}
 use mathlib.Core.Bool.{Bool, true, false, cond, _&&_}
 use mathlib.Core.List.{List, [], _∷_}
@@ -12,42 +12,55 @@ use Rattle.reading.specs.declared.Dialect.{Dialect}
 use Rattle.reading.specs.declared.Kind.{Kind}
 use Rattle.reading.specs.declared.group.Group.the-variants.{Application, AuthDataItem, SupportedFeatures, UserIdentity}
 use Rattle.reading.specs.declared.Use.{Use}
+use Rattle.reading.specs.declared.Uses.{Uses}
 use Rattle.reading.specs.declared.Use.the-variants.{Unknown, Unnamed, Needed, Optional, Repeated, Several}
 
--- code, vendor, content, and the use in a UAR, in a SAR, in a LIR, in a MAR and in a UDR
-abbrev pub row : ℕ → ℕ → Content → Use → Use → Use → Use → Use → Kind
-row code vendor content uar sar lir mar udr =
-    record { code = code; vendor = vendor; content = content; uar = uar; sar = sar; lir = lir; mar = mar; udr = udr }
+-- the use in a UAR, in a SAR, in a LIR, in a MAR, and on Sh, whose one command is the UDR; of a kind that only Cx knows, or only Sh
+abbrev pub uses : Use → Use → Use → Use → Use → Uses
+uses uar sar lir mar udr = record { uar = uar; sar = sar; lir = lir; mar = mar; udr = udr }
+
+abbrev pub everywhere : Use → Uses
+everywhere u = uses u u u u u
+
+abbrev pub ofCx : Use → Use → Use → Use → Uses
+ofCx uar sar lir mar = uses uar sar lir mar Unknown
+
+abbrev pub ofSh : Use → Uses
+ofSh udr = uses Unknown Unknown Unknown Unknown udr
+
+-- code, vendor, content and uses
+abbrev pub row : ℕ → ℕ → Content → Uses → Kind
+row code vendor content uses = record { code = code; vendor = vendor; content = content; uses = uses }
 
 -- The known kinds, in the order in which a missing one is looked for; a kind's number is its place here, from 1 on.
 unfoldable pub known : List Kind
 known =
-    row 263 0 Free Needed Needed Needed Needed Needed
-    ∷ row 260 0 (Members Application) Needed Needed Needed Needed Needed
-    ∷ row 277 0 (Number 1 1) Needed Needed Needed Needed Needed
-    ∷ row 264 0 Free Needed Needed Needed Needed Needed
-    ∷ row 296 0 Free Needed Needed Needed Needed Needed
-    ∷ row 283 0 Free Needed Needed Needed Needed Needed
-    ∷ row 1 0 Free Needed Optional Unnamed Needed Optional
-    ∷ row 601 10415 Free Needed Repeated Needed Needed Unknown
-    ∷ row 600 10415 Free Needed Unnamed Unnamed Unnamed Unknown
-    ∷ row 612 10415 (Members AuthDataItem) Unnamed Unnamed Unnamed Needed Unknown
-    ∷ row 607 10415 (Number 0 4294967295) Unnamed Unnamed Unnamed Needed Unknown
-    ∷ row 602 10415 (Sized 1 96) Unnamed Needed Unnamed Needed Unknown
-    ∷ row 614 10415 (Number 0 11) Unnamed Needed Unnamed Unnamed Unknown
-    ∷ row 624 10415 (Number 0 1) Unnamed Needed Unnamed Unnamed Unknown
-    ∷ row 623 10415 (Number 0 2) Optional Unnamed Unnamed Unnamed Unknown
-    ∷ row 293 0 Free Optional Optional Optional Optional Optional
-    ∷ row 284 0 Free Repeated Repeated Repeated Repeated Repeated
-    ∷ row 282 0 Free Repeated Repeated Repeated Repeated Repeated
-    ∷ row 628 10415 (Members SupportedFeatures) Repeated Repeated Repeated Repeated Unnamed
-    ∷ row 700 10415 (Members UserIdentity) Unknown Unknown Unknown Unknown Needed
-    ∷ row 703 10415 (Number 0 4294967295) Unknown Unknown Unknown Unknown Several
+    row 263 0 Free (everywhere Needed)
+    ∷ row 260 0 (Members Application) (everywhere Needed)
+    ∷ row 277 0 (Number 1 1) (everywhere Needed)
+    ∷ row 264 0 Free (everywhere Needed)
+    ∷ row 296 0 Free (everywhere Needed)
+    ∷ row 283 0 Free (everywhere Needed)
+    ∷ row 1 0 Free (uses Needed Optional Unnamed Needed Optional)
+    ∷ row 601 10415 Free (ofCx Needed Repeated Needed Needed)
+    ∷ row 600 10415 Free (ofCx Needed Unnamed Unnamed Unnamed)
+    ∷ row 612 10415 (Members AuthDataItem) (ofCx Unnamed Unnamed Unnamed Needed)
+    ∷ row 607 10415 (Number 0 4294967295) (ofCx Unnamed Unnamed Unnamed Needed)
+    ∷ row 602 10415 (Sized 1 96) (ofCx Unnamed Needed Unnamed Needed)
+    ∷ row 614 10415 (Number 0 11) (ofCx Unnamed Needed Unnamed Unnamed)
+    ∷ row 624 10415 (Number 0 1) (ofCx Unnamed Needed Unnamed Unnamed)
+    ∷ row 623 10415 (Number 0 2) (ofCx Optional Unnamed Unnamed Unnamed)
+    ∷ row 293 0 Free (everywhere Optional)
+    ∷ row 284 0 Free (everywhere Repeated)
+    ∷ row 282 0 Free (everywhere Repeated)
+    ∷ row 628 10415 (Members SupportedFeatures) (uses Repeated Repeated Repeated Repeated Unnamed)
+    ∷ row 700 10415 (Members UserIdentity) (ofSh Needed)
+    ∷ row 703 10415 (Number 0 4294967295) (ofSh Several)
     ∷ []
 
--- Number 0 is the unknown kind's, which is so in every command.
+-- Number 0 is the unknown kind's, which is so everywhere.
 abbrev pub unknown : Kind
-unknown = row 0 0 Free Unknown Unknown Unknown Unknown Unknown
+unknown = row 0 0 Free (everywhere Unknown)
 
 -- how many kinds there are, the unknown one among them
 abbrev pub kinds : ℕ
@@ -136,14 +149,22 @@ kindBy flags vendor code = kindFrom known 1 flags vendor code
 abbrev pub kindOf : List ℕ → ℕ
 kindOf a = kindBy (avpFlags a) (vendorOf a) (avpCode a)
 
--- what a dialect makes of a kind, by its command: UAR 300, SAR 301, LIR 302, MAR 303, UDR 306 (no other passes the header's test); and of an AVP
+-- the applications Cx and Sh
+abbrev pub cx : ℕ
+cx = 16777216
+
+abbrev pub sh : ℕ
+sh = 16777217
+
+-- What a dialect makes of a kind: on Sh by its own list, whatever the command; else by the command, UAR 300, SAR 301, LIR 302, MAR 303 (no other passes the
+-- header's test); and of an AVP
 unfoldable pub useIn : Dialect → Kind → Use
 useIn d k =
-    cond (eqb (d .command) 300) (k .uar)
-    (cond (eqb (d .command) 301) (k .sar)
-    (cond (eqb (d .command) 302) (k .lir)
-    (cond (eqb (d .command) 306) (k .udr)
-    (k .mar))))
+    cond (eqb (d .terms .application) sh) (k .uses .udr)
+    (cond (eqb (d .command) 300) (k .uses .uar)
+    (cond (eqb (d .command) 301) (k .uses .sar)
+    (cond (eqb (d .command) 302) (k .uses .lir)
+    (k .uses .mar))))
 
 abbrev pub useOf : Dialect → List ℕ → Use
 useOf d a = useIn d (rowOf (kindOf a))

@@ -3,13 +3,14 @@ use crate::Content;
 use crate::Dialect;
 use crate::Kind;
 use crate::Use;
+use crate::Uses;
 use crate::group::Group;
 use diameter::Avp;
 use diameter::codes;
 ghost use mathlib.Core.Path.{_≡_};
 ghost use Prim.Native.Nat.{_<_};
 ghost use Rattle.diameter.specs.Reader.{ownOf, Here};
-ghost use Rattle.reading.specs.Kinds.{kinds, row, kindBy, kindOf, rowOf, useIn, isNeeded};
+ghost use Rattle.reading.specs.Kinds.{kinds, uses, everywhere, ofCx, ofSh, row, kindBy, kindOf, rowOf, useIn, isNeeded};
 
 pub const SESSION_ID: usize = 1;
 
@@ -75,23 +76,11 @@ const SERVER: Content = Content::Sized(1, 96);
 // A 4-byte number of any value.
 const NUMBER: Content = Content::Number(0, 4294967295);
 
-// A row of the table: code, vendor, content, and the use in a UAR, in a SAR, in a LIR, in a MAR and in a UDR.
-fn row(
-    code: u32,
-    vendor: u32,
-    content: Content,
-    uar: Use,
-    sar: Use,
-    lir: Use,
-    mar: Use,
-    udr: Use,
-) -> Kind
-    ensures { λ r. ⌜ r ≡ row code vendor content uar sar lir mar udr ⌝ }
+// The uses of a kind: in a UAR, in a SAR, in a LIR, in a MAR and on Sh.
+fn uses(uar: Use, sar: Use, lir: Use, mar: Use, udr: Use) -> Uses
+    ensures { λ r. ⌜ r ≡ uses uar sar lir mar udr ⌝ }
 {
-    Kind {
-        code,
-        vendor,
-        content,
+    Uses {
         uar,
         sar,
         lir,
@@ -100,132 +89,119 @@ fn row(
     }
 }
 
-// "Known, vendor 0 without V: .. With V and 10415: .." and "Needed everywhere: .. UAR then .. SAR .. LIR ..", 003's grammar of a MAR, and 001's of a UDR: the row of a kind.
+fn everywhere(u: Use) -> Uses
+    ensures { λ r. ⌜ r ≡ everywhere u ⌝ }
+{
+    uses(u, u, u, u, u)
+}
+
+fn of_cx(uar: Use, sar: Use, lir: Use, mar: Use) -> Uses
+    ensures { λ r. ⌜ r ≡ ofCx uar sar lir mar ⌝ }
+{
+    uses(uar, sar, lir, mar, X)
+}
+
+fn of_sh(udr: Use) -> Uses
+    ensures { λ r. ⌜ r ≡ ofSh udr ⌝ }
+{
+    uses(X, X, X, X, udr)
+}
+
+// A row of the table: code, vendor, content and uses.
+fn row(code: u32, vendor: u32, content: Content, uses: Uses) -> Kind
+    ensures { λ r. ⌜ r ≡ row code vendor content uses ⌝ }
+{
+    Kind {
+        code,
+        vendor,
+        content,
+        uses,
+    }
+}
+
+// "Known, vendor 0 without V: .. With V and 10415: .." and "Needed everywhere: .. UAR then .. SAR .. LIR ..", 003's grammar of a MAR, and 001's of a UDR: the
+// row of a kind.
 pub fn row_of(k: usize) -> Kind
     ensures { λ r. ⌜ r ≡ rowOf k ⌝ }
 {
     match k {
-        SESSION_ID => row(codes::SESSION_ID, 0, Content::Free, N, N, N, N, N),
+        SESSION_ID => row(codes::SESSION_ID, 0, Content::Free, everywhere(N)),
         APPLICATION => row(
             codes::VENDOR_SPECIFIC_APPLICATION_ID,
             0,
             Content::Members(Group::Application),
-            N,
-            N,
-            N,
-            N,
-            N,
+            everywhere(N),
         ),
         SESSION_STATE => row(
             codes::AUTH_SESSION_STATE,
             0,
             Content::Number(1, 1),
-            N,
-            N,
-            N,
-            N,
-            N,
+            everywhere(N),
         ),
-        ORIGIN_HOST => row(codes::ORIGIN_HOST, 0, Content::Free, N, N, N, N, N),
-        ORIGIN_REALM => row(codes::ORIGIN_REALM, 0, Content::Free, N, N, N, N, N),
-        DESTINATION_REALM => row(codes::DESTINATION_REALM, 0, Content::Free, N, N, N, N, N),
-        USER_NAME => row(codes::USER_NAME, 0, Content::Free, N, O, U, N, O),
+        ORIGIN_HOST => row(codes::ORIGIN_HOST, 0, Content::Free, everywhere(N)),
+        ORIGIN_REALM => row(codes::ORIGIN_REALM, 0, Content::Free, everywhere(N)),
+        DESTINATION_REALM => row(codes::DESTINATION_REALM, 0, Content::Free, everywhere(N)),
+        USER_NAME => row(codes::USER_NAME, 0, Content::Free, uses(N, O, U, N, O)),
         PUBLIC_IDENTITY => row(
             codes::PUBLIC_IDENTITY,
             codes::VENDOR,
             Content::Free,
-            N,
-            R,
-            N,
-            N,
-            X,
+            of_cx(N, R, N, N),
         ),
         VISITED_NETWORK => row(
             codes::VISITED_NETWORK_IDENTIFIER,
             codes::VENDOR,
             Content::Free,
-            N,
-            U,
-            U,
-            U,
-            X,
+            of_cx(N, U, U, U),
         ),
         AUTH_DATA_ITEM => row(
             codes::SIP_AUTH_DATA_ITEM,
             codes::VENDOR,
             Content::Members(Group::AuthDataItem),
-            U,
-            U,
-            U,
-            N,
-            X,
+            of_cx(U, U, U, N),
         ),
         NUMBER_AUTH_ITEMS => row(
             codes::SIP_NUMBER_AUTH_ITEMS,
             codes::VENDOR,
             NUMBER,
-            U,
-            U,
-            U,
-            N,
-            X,
+            of_cx(U, U, U, N),
         ),
-        SERVER_NAME => row(codes::SERVER_NAME, codes::VENDOR, SERVER, U, N, U, N, X),
+        SERVER_NAME => row(codes::SERVER_NAME, codes::VENDOR, SERVER, of_cx(U, N, U, N)),
         ASSIGNMENT_TYPE => row(
             codes::SERVER_ASSIGNMENT_TYPE,
             codes::VENDOR,
             Content::Number(0, 11),
-            U,
-            N,
-            U,
-            U,
-            X,
+            of_cx(U, N, U, U),
         ),
         DATA_AVAILABLE => row(
             codes::USER_DATA_ALREADY_AVAILABLE,
             codes::VENDOR,
             Content::Number(0, 1),
-            U,
-            N,
-            U,
-            U,
-            X,
+            of_cx(U, N, U, U),
         ),
         AUTHORIZATION_TYPE => row(
             codes::USER_AUTHORIZATION_TYPE,
             codes::VENDOR,
             Content::Number(0, 2),
-            O,
-            U,
-            U,
-            U,
-            X,
+            of_cx(O, U, U, U),
         ),
-        DESTINATION_HOST => row(codes::DESTINATION_HOST, 0, Content::Free, O, O, O, O, O),
-        PROXY_INFO => row(codes::PROXY_INFO, 0, Content::Free, R, R, R, R, R),
-        ROUTE_RECORD => row(codes::ROUTE_RECORD, 0, Content::Free, R, R, R, R, R),
+        DESTINATION_HOST => row(codes::DESTINATION_HOST, 0, Content::Free, everywhere(O)),
+        PROXY_INFO => row(codes::PROXY_INFO, 0, Content::Free, everywhere(R)),
+        ROUTE_RECORD => row(codes::ROUTE_RECORD, 0, Content::Free, everywhere(R)),
         SUPPORTED_FEATURES => row(
             codes::SUPPORTED_FEATURES,
             codes::VENDOR,
             Content::Members(Group::SupportedFeatures),
-            R,
-            R,
-            R,
-            R,
-            U,
+            uses(R, R, R, R, U),
         ),
         USER_IDENTITY => row(
             codes::USER_IDENTITY,
             codes::VENDOR,
             Content::Members(Group::UserIdentity),
-            X,
-            X,
-            X,
-            X,
-            N,
+            of_sh(N),
         ),
-        DATA_REFERENCE => row(codes::DATA_REFERENCE, codes::VENDOR, NUMBER, X, X, X, X, S),
-        _ => row(0, 0, Content::Free, X, X, X, X, X),
+        DATA_REFERENCE => row(codes::DATA_REFERENCE, codes::VENDOR, NUMBER, of_sh(S)),
+        _ => row(0, 0, Content::Free, everywhere(X)),
     }
 }
 
@@ -289,23 +265,25 @@ pub fn kind_of(s: &[u8], a: Avp) -> usize
     kind_by(a.flags, diameter::vendor_of(s, a), diameter::code_of(s, a))
 }
 
-// What a dialect makes of a kind.
+// What a dialect makes of a kind: on Sh by its own list, whatever the command; else by the command.
 pub fn use_in(d: Dialect, k: Kind) -> Use
     ensures { λ r. ⌜ r ≡ useIn d k ⌝ }
 {
+    let terms = d.terms;
+    let uses = k.uses;
+    if terms.application == codes::SH {
+        return uses.udr;
+    }
     if d.command == crate::UAR {
-        return k.uar;
+        return uses.uar;
     }
     if d.command == crate::SAR {
-        return k.sar;
+        return uses.sar;
     }
     if d.command == crate::LIR {
-        return k.lir;
+        return uses.lir;
     }
-    if d.command == crate::UDR {
-        return k.udr;
-    }
-    k.mar
+    uses.mar
 }
 
 pub fn needed(u: Use) -> bool

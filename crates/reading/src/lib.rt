@@ -83,16 +83,21 @@ pub enum Use {
     Several,
 }
 
-// A kind of AVP: its code and vendor, its content, and what each command makes of it.
-pub struct Kind {
-    pub code: u32,
-    pub vendor: u32,
-    pub content: Content,
+// What is made of a kind in a UAR, in a SAR, in a LIR, in a MAR, and on Sh, whose one command is the UDR.
+pub struct Uses {
     pub uar: Use,
     pub sar: Use,
     pub lir: Use,
     pub mar: Use,
     pub udr: Use,
+}
+
+// A kind of AVP: its code and vendor, its content, and what is made of it.
+pub struct Kind {
+    pub code: u32,
+    pub vendor: u32,
+    pub content: Content,
+    pub uses: Uses,
 }
 
 // A member of a group: its code and vendor (0: without V), its content, and whether it may come more than once.

@@ -2,7 +2,7 @@
 use Rattle.octets.specs.Standard.{ℕ, zero, suc, pred, _+_, _-_, _<_, _≤_, List, [], _∷_, Bool, true, false, cond, _≡_, refl, arith, length, take}
 use Rattle.octets.specs.Standard.{drop, length-drop, length-take-le, eqb}
 use Rattle.diameter.specs.Avp.{avpLen, padded, sound}
-use Rattle.diameter.specs.Walk.{Walk, onSound, walkFrom, walk}
+use Rattle.diameter.specs.Walk.{onSound, walkFrom, walk}
 use Rattle.diameter.specs.Message.{bodyOf}
 use Rattle.diameter.proofs.Walks.{Sound, sound-says, padded-least}
 use Rattle.reading.specs.Kinds.{sessionId}

@@ -1,5 +1,5 @@
 -- Demand 3 over walks: an unknown kind without M is passed over; one with M is B5001, unless an AVP in front of it is at fault.
-use Rattle.octets.specs.Standard.{ℕ, _+_, _≡_, refl, sym, ap, _∙_, fun-ext, List, [], _∷_, Bool, true, false, cond, true≢false, length, eqb, eqb-true}
+use Rattle.octets.specs.Standard.{ℕ, _+_, _≡_, refl, sym, ap, _∙_, fun-ext, List, [], _∷_, Bool, true, false, true≢false, length, eqb, eqb-true}
 use Rattle.diameter.specs.Avp.{padded, avpFlags, reserved, marked}
 use Rattle.diameter.specs.Walk.{Walk, ended, avp}
 use Rattle.diameter.specs.Put.{glue}
@@ -7,10 +7,12 @@ use Rattle.reading.specs.declared.Dialect.{Dialect}
 use Rattle.reading.specs.declared.Kind.{Kind}
 use Rattle.reading.specs.declared.Ruled.{Ruled}
 use Rattle.reading.specs.declared.Ruled.the-variants.{Taken, Skipped, Fault}
+use Rattle.reading.specs.declared.Use.{Use}
 use Rattle.reading.specs.declared.Use.the-variants.{Unknown}
-use Rattle.reading.specs.Kinds.{known, kindOf, rowOf, useIn, useOf, isUnknown, publicIdentity, proxyInfo, supportedFeatures}
+use Rattle.reading.specs.Kinds.{known, kindOf, rowOf, useIn, useOf, isUnknown, sh, publicIdentity, proxyInfo, supportedFeatures}
 use Rattle.reading.specs.Rules.{ruleBy, rule, Seen}
 use Rattle.reading.specs.Verdicts.{faultAt}
+use Rattle.reading.proofs.Columns.{use-any}
 use Rattle.requests.specs.Judged.{Judged, bad, fine, onRule, judge}
 
 -- an AVP of a kind that the dialect does not know is none of a kind that it knows
@@ -22,23 +24,12 @@ stranger-kind dialect u k e f = go (eqb (kindOf u) k) refl
     go true d = absurd (true≢false (sym (ap isUnknown e) ∙ rw (eqb-true (kindOf u) k d) f))
     go false d = d
 
--- Proxy-Info and Supported-Features are known to each command, Public-Identity to those of Cx
-known-in : (dialect : Dialect) (k : Kind) → isUnknown (k .uar) ≡ false → isUnknown (k .sar) ≡ false → isUnknown (k .lir) ≡ false → isUnknown (k .mar) ≡ false
-    → (dialect .command ≡ 306 → isUnknown (k .udr) ≡ false)
-    → isUnknown (useIn dialect k) ≡ false
-unfolding useIn
-known-in dialect k a b c d e =
-    go (eqb (dialect .command) 300) (eqb (dialect .command) 301) (eqb (dialect .command) 302) (eqb (dialect .command) 306) refl
-  where
-    go : (x y z u : Bool) → eqb (dialect .command) 306 ≡ u
-        → isUnknown (cond x (k .uar) (cond y (k .sar) (cond z (k .lir) (cond u (k .udr) (k .mar))))) ≡ false
-    go true y z u f = a
-    go false true z u f = b
-    go false false true u f = c
-    go false false false true f = e (eqb-true _ _ f)
-    go false false false false f = d
+-- Proxy-Info and Supported-Features are known on every application, Public-Identity on all but Sh
+known-in : (dialect : Dialect) (k : Kind) → isUnknown (k .uses .uar) ≡ false → isUnknown (k .uses .sar) ≡ false → isUnknown (k .uses .lir) ≡ false
+    → isUnknown (k .uses .mar) ≡ false → (dialect .terms .application ≡ sh → isUnknown (k .uses .udr) ≡ false) → isUnknown (useIn dialect k) ≡ false
+known-in dialect k uar sar lir mar udr = use-any (λ (u : Use). isUnknown u ≡ false) dialect k udr uar sar lir mar
 
-pub identity-known : (dialect : Dialect) → (dialect .command ≡ 306 → ⊥) → isUnknown (useIn dialect (rowOf publicIdentity)) ≡ false
+pub identity-known : (dialect : Dialect) → (dialect .terms .application ≡ sh → ⊥) → isUnknown (useIn dialect (rowOf publicIdentity)) ≡ false
 unfolding rowOf known
 identity-known dialect other = known-in dialect (rowOf publicIdentity) refl refl refl refl (λ e. absurd (other e))
 

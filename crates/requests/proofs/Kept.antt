@@ -1,7 +1,7 @@
 -- What a request that was read holds: what the dialect needs came, and each AVP that was taken keeps rule (h).
 use Rattle.octets.specs.Standard.{ℕ, zero, suc, _+_, _/_, _%_, _≤_, _<_, add-zero, add-suc, suc-add, _≡_, refl, sym, ap, _∙_, List, [], _∷_, Option, none, some}
 use Rattle.octets.specs.Standard.{Option·none-ne-some, Bool, true, false, not, cond, _&&_, true≢false, _⊎_, inl, inr, arith, length, getD, set}
-use Rattle.octets.specs.Standard.{replicate, eqb, leb, eqb-true, leb-true, ne-eqb}
+use Rattle.octets.specs.Standard.{replicate, eqb, leb, eqb-true, leb-true}
 use Rattle.octets.proofs.All.{and-left, and-right}
 use Rattle.octets.proofs.Chains.{chain-says}
 use Rattle.diameter.specs.Avp.{padded, avpFlags, dataOf, reserved, marked}
@@ -18,6 +18,7 @@ use Rattle.reading.specs.declared.Verdict.{Verdict}
 use Rattle.reading.specs.Kinds.{kinds, known, unknown, kindOf, rowOf, useIn, useOf, isNeeded, sessionId, serverName}
 use Rattle.reading.specs.Contents.{faultUnless, plainFault}
 use Rattle.reading.specs.Rules.{contentFault, ofContent, ofUse, ruleBy, rule, Seen}
+use Rattle.reading.proofs.Columns.{use-any}
 use Rattle.requests.specs.Judged.{nothing, Judged, bad, fine, onRule, judge}
 use Rattle.diameter.specs.Message.{versionOf, messageFlags, bodyOf}
 use Rattle.reading.specs.Verdicts.{lackOf, faultOf}
@@ -28,7 +29,7 @@ use Rattle.requests.specs.Request.{readWalk, readBy, readIn, readSh, giv
 abbrev pub AllKept : Dialect → Seen → Type 0
 AllKept dialect seen = (k : ℕ) (a : List ℕ) → getD seen k none ≡ some a → contentFault dialect (rowOf k .content) a ≡ 0
 
-bad-fine : {A : Type 0} (v : Verdict) (seen : Seen) → bad v ≡ fine seen → A
+pub bad-fine : {A : Type 0} (v : Verdict) (seen : Seen) → bad v ≡ fine seen → A
 bad-fine v seen e = let z : _≡_ {A = ℕ} 0 1 = cc in absurd (omega arith)
 
 -- an AVP with bad content is not taken
@@ -124,7 +125,7 @@ by-fine fault dialect req seen e = go (eqb fault 0) e
     go true d = walk-fine dialect (bodyOf req) seen d
     go false d = bad-fine _ _ d
 
-request-fine : (dialect : Dialect) (req : List ℕ) (seen : Seen) → readIn dialect req ≡ fine seen
+pub request-fine : (dialect : Dialect) (req : List ℕ) (seen : Seen) → readIn dialect req ≡ fine seen
     → (judge dialect 20 (bodyOf req) nothing ≡ fine seen) × (missing dialect seen ≡ 0)
 unfolding readIn
 request-fine dialect req seen e = by-fine (headerFault dialect req) dialect req seen e
@@ -163,16 +164,12 @@ missing-zero dialect seen (k ∷ ks) n p e i h t =
 
 none-missing : (dialect : Dialect) (seen : Seen) (k : ℕ) → missing dialect seen ≡ 0 → k < kinds → isNeeded (useIn dialect (rowOf k)) ≡ true
     → given seen k ≡ true
-unfolding missing rowOf known useIn
+unfolding missing rowOf known
 none-missing dialect seen zero e h t =
-    go (eqb (dialect .command) 300) (eqb (dialect .command) 301) (eqb (dialect .command) 302) (eqb (dialect .command) 306) t
+    use-any (λ (u : Use). isNeeded u ≡ true → given seen zero ≡ true) dialect unknown (λ f d. never d) never never never never t
   where
-    go : (x y z u : Bool) → isNeeded (cond x Unknown (cond y Unknown (cond z Unknown (cond u Unknown Unknown)))) ≡ true → given seen zero ≡ true
-    go true y z u d = absurd (true≢false (sym d))
-    go false true z u d = absurd (true≢false (sym d))
-    go false false true u d = absurd (true≢false (sym d))
-    go false false false true d = absurd (true≢false (sym d))
-    go false false false false d = absurd (true≢false (sym d))
+    never : false ≡ true → given seen zero ≡ true
+    never d = absurd (true≢false (sym d))
 none-missing dialect seen (suc i) e h t =
     let d = missing-zero dialect seen known 1 (omega arith) e i (omega arith) t in
     let n : 1 + i ≡ suc i = omega arith in
@@ -199,18 +196,30 @@ header-speaks : (has : Bool) (d : Dialect) (req : List ℕ) → headerFaultBy ha
 header-speaks true d req e = refl
 header-speaks false d req e = absurd (unspoken (not (eqb (versionOf req) 1)) (eqb (messageFlags req / 32 % 2) 1) e)
 
-pub read-command : (d : Dialect) (req : List ℕ) (seen : Seen) → readIn d req ≡ fine seen → (300 ≤ d .command) × (d .command ≤ 303)
-unfolding readIn headerFault
-read-command d req seen e =
-    let f : spoken d ≡ true = header-speaks (spoken d) d req (eqb-true _ _ (fine-first (eqb (headerFault d req) 0) _ _ e)) in
-    let s = chain-says (eqb (d .terms .application) cx) (leb 300 (d .command) ∷ leb (d .command) 303 ∷ []) f in
-    (leb-true _ _ (s 1), leb-true _ _ (s 2))
+pub header-spoken : (d : Dialect) (req : List ℕ) → headerFault d req ≡ 0 → (d .terms .application ≡ cx) × (300 ≤ d .command) × (d .command ≤ 303)
+unfolding headerFault
+header-spoken d req e =
+    let s = chain-says (eqb (d .terms .application) cx) (leb 300 (d .command) ∷ leb (d .command) 303 ∷ []) (header-speaks (spoken d) d req e) in
+    (eqb-true _ _ (s 0), leb-true _ _ (s 1), leb-true _ _ (s 2))
 
-pub sh-command : (d : Dialect) (req : List ℕ) (seen : Seen) → readSh d req ≡ fine seen → d .command ≡ 306
+pub read-spoken : (d : Dialect) (req : List ℕ) (seen : Seen) → readIn d req ≡ fine seen → (d .terms .application ≡ cx) × (300 ≤ d .command) × (d .command ≤ 303)
+unfolding readIn
+read-spoken d req seen e = header-spoken d req (eqb-true _ _ (fine-first (eqb (headerFault d req) 0) _ _ e))
+
+pub read-command : (d : Dialect) (req : List ℕ) (seen : Seen) → readIn d req ≡ fine seen → (300 ≤ d .command) × (d .command ≤ 303)
+read-command d req seen e = let r = read-spoken d req seen e in (r .1, r .2)
+
+pub sh-spoken : (d : Dialect) (req : List ℕ) (seen : Seen) → readSh d req ≡ fine seen → (d .terms .application ≡ sh) × (d .command ≡ 306)
 unfolding readSh headerFaultSh
-sh-command d req seen e =
+sh-spoken d req seen e =
     let f : spokenSh d ≡ true = header-speaks (spokenSh d) d req (eqb-true _ _ (fine-first (eqb (headerFaultSh d req) 0) _ _ e)) in
-    eqb-true _ _ (and-right (eqb (d .terms .application) sh) _ f)
+    (eqb-true _ _ (and-left (eqb (d .terms .application) sh) _ f), eqb-true _ _ (and-right (eqb (d .terms .application) sh) _ f))
+
+-- on Cx a kind has its use by the command
+pub cx-use : (d : Dialect) (k : Kind) → d .terms .application ≡ cx → useIn d k
+    ≡ cond (eqb (d .command) 300) (k .uses .uar) (cond (eqb (d .command) 301) (k .uses .sar) (cond (eqb (d .command) 302) (k .uses .lir) (k .uses .mar)))
+unfolding useIn
+cx-use d k e = rw e
 
 -- the limits of lengths; of a kind that did not come the length is 0
 pub no-fault : (good : Bool) (n : ℕ) → faultUnless good (suc n) ≡ 0 → good ≡ true
@@ -246,9 +255,15 @@ module _ (dialect : Dialect) (req : List ℕ) (seen : Seen) (e : readIn dialect 
 
   server-needed : (dialect .command ≡ 301) ⊎ ((dialect .command ≡ 300 → ⊥) × (dialect .command ≡ 301 → ⊥) × (dialect .command ≡ 302 → ⊥))
       → isNeeded (useIn dialect (rowOf serverName)) ≡ true
-  unfolding rowOf known useIn
-  server-needed (inl c) = rw c
-  server-needed (inr (a, b, c)) = let r = read-command dialect req seen e in let n : dialect .command ≡ 303 = omega arith in rw n
+  unfolding rowOf known
+  server-needed o = let r = read-spoken dialect req seen e in rw (cx-use dialect (rowOf serverName) (r .0)) (go o (r .1, r .2))
+    where
+      go : (dialect .command ≡ 301) ⊎ ((dialect .command ≡ 300 → ⊥) × (dialect .command ≡ 301 → ⊥) × (dialect .command ≡ 302 → ⊥))
+          → (300 ≤ dialect .command) × (dialect .command ≤ 303)
+          → isNeeded (cond (eqb (dialect .command) 300) Unnamed (cond (eqb (dialect .command) 301) Needed (cond (eqb (dialect .command) 302) Unnamed Needed)))
+          ≡ true
+      go (inl c) r = rw c
+      go (inr (a, b, c)) r = let n : dialect .command ≡ 303 = omega arith in rw n
 
   pub server-least : (dialect .command ≡ 301) ⊎ ((dialect .command ≡ 300 → ⊥) × (dialect .command ≡ 301 → ⊥) × (dialect .command ≡ 302 → ⊥))
       → 1 ≤ length (dataSeen seen serverName)

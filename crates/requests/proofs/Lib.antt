@@ -1,9 +1,10 @@
 pub mod Faulting
+pub mod Featured
 pub mod Insert
 pub mod Kept
 pub mod Naming
 pub mod Placed
 pub mod Requests
-pub mod Scheme
+pub mod Sole
 pub mod Turns
 pub mod Wanted

@@ -12,6 +12,7 @@ use Rattle.diameter.specs.AvpAt.{present, dataAt}
 use Rattle.reading.specs.declared.Dialect.{Dialect}
 use Rattle.reading.specs.declared.Kind.{Kind}
 use Rattle.reading.specs.declared.Terms.{Terms}
+pub use Rattle.reading.specs.Kinds.{cx, sh}
 use Rattle.reading.specs.Kinds.{known, kindOf, useIn, isNeeded, sessionId, publicIdentity, authDataItem, userIdentity}
 use Rattle.reading.specs.Rules.{Seen}
 use Rattle.reading.specs.Verdicts.{faultOf, lackOf}
@@ -21,14 +22,8 @@ use Rattle.requests.specs.Judged.{Judged, bad, fine, nothing, judge}
 abbrev pub dialectOf : Terms → List ℕ → Dialect
 dialectOf terms req = record { command = commandOf req; terms = terms }
 
--- the applications Cx and Sh, and the terms of a call to the server of each by a peer that follows an edition of the base standard; "a set of bits .., given by
--- the daemon at each call", of which Sh's server has none
-abbrev pub cx : ℕ
-cx = 16777216
-
-abbrev pub sh : ℕ
-sh = 16777217
-
+-- the terms of a call to the server of each application by a peer that follows an edition of the base standard; "a set of bits .., given by the daemon at each
+-- call", of which Sh's server has none
 abbrev pub underCx : ℕ → ℕ → Terms
 underCx peer features = record { application = cx; peer = peer; features = features }
 

@@ -1,4 +1,5 @@
 // What the Supported-Features of a request ask for, looked at in one walk.
+use crate::places;
 use diameter::Read;
 use diameter::message;
 use reading::Dialect;
@@ -11,7 +12,10 @@ ghost use lib.ListN.{length};
 ghost use Rattle.diameter.specs.Message.{bodyOf};
 ghost use Rattle.diameter.specs.Walk.{someAvp};
 ghost use Rattle.reading.specs.Features.{asksBeyond};
+ghost use Rattle.reading.specs.Places.{seenOf};
 ghost use Rattle.requests.specs.Features.{calledIn, wantedOf};
+ghost use Rattle.requests.specs.Judged.{fine};
+ghost use Rattle.requests.specs.Request.{readIn};
 
 // Whether the server's own list is called for, and whether a feature is asked for that it does not support.
 pub struct Wanted {
@@ -51,5 +55,19 @@ pub fn wanted_of(req: &[u8], terms: Terms) -> Wanted
     Wanted {
         listed: (crate::header_fault(req, d) == 0) & found.listed,
         beyond: found.beyond,
+    }
+}
+
+// The same of a request that was read: where no 628 was taken there is none, and its AVPs are not gone over again.
+pub fn wanted_read(req: &[u8], d: Dialect, found: [usize; kinds::KINDS]) -> Wanted
+    requires { ⌜ (20 ≤ length (now req)) × (readIn d (now req) ≡ fine (seenOf (now req) found)) ⌝ }
+    ensures { λ r. ⌜ r ≡ wantedOf (d .terms) (now (req .entry)) ⌝ }
+{
+    if places::given(req, found, kinds::SUPPORTED_FEATURES) {
+        return wanted_of(req, d.terms);
+    }
+    Wanted {
+        listed: false,
+        beyond: false,
     }
 }

@@ -9,7 +9,7 @@ use Rattle.reading.specs.declared.Dialect.{Dialect}
 use Rattle.requests.specs.Features.{beyondSet}
 use Rattle.requests.specs.Judged.{Judged, bad, fine}
 use Rattle.requests.specs.Request.{readIn, given, dataSeen, valueSeen, schemeOf, identities}
-use Rattle.requests.proofs.Kept.{read-needed}
+use Rattle.requests.proofs.Kept.{read-needed, read-spoken}
 use Rattle.deciding.specs.Plans.{assignmentOf, uarPlan, sarPlan, lirPlan, marPlan, planRead}
 use Rattle.deciding.specs.Rules.{inForce}
 use Rattle.deciding.specs.Decide.{Decision, featureUnsupported, performedBy, judgedBy, decideBy, decide}
@@ -29,11 +29,11 @@ pub record Asks (dialect : Dialect) (req : List ℕ) (seen : Seen) (Public Priva
 module _ (dialect : Dialect) (req : List ℕ) (seen : Seen) (read : readIn dialect req ≡ fine seen) where
   asked-user : dialect .command ≡ 300 → given seen userName ≡ true
   unfolding rowOf known useIn
-  asked-user c = read-needed dialect req seen userName read (omega arith) (rw c)
+  asked-user c = read-needed dialect req seen userName read (omega arith) (rw (read-spoken dialect req seen read .0, c))
 
   proved-user : dialect .command ≡ 303 → given seen userName ≡ true
   unfolding rowOf known useIn
-  proved-user c = read-needed dialect req seen userName read (omega arith) (rw c)
+  proved-user c = read-needed dialect req seen userName read (omega arith) (rw (read-spoken dialect req seen read .0, c))
 
 module _ {file other t u : List ℕ} {count many : ℕ} {Like : ℕ → ℕ → Type 0} {Public Private : List ℕ → Type 0}
     (sight : SameSight file other t u count many Like Public Private) (dialect : Dialect) (req v w : List ℕ) (same : dialect .command ≡ 303 → v ≡ w) where

@@ -1,8 +1,8 @@
 -- An answer is written by the writers of its parts.
-use Rattle.octets.specs.Standard.{ℕ, _+_, _*_, _≤_, _<_, List, Bool, _≡_, refl, sym, _∙_, append-assoc, arith, length, length-append, ne-eqb, eq-eqb}
+use Rattle.octets.specs.Standard.{ℕ, _+_, _*_, _≤_, _<_, List, Bool, _≡_, refl, append-assoc, arith, length, length-append, ne-eqb, eq-eqb}
 use Rattle.octets.specs.Run.{over, Wrote}
 use Rattle.octets.proofs.Writes.{lent, back, then, named, then-front}
-use Rattle.record.specs.Fields.{bitsOf, stateOf, serverOf, pending}
+use Rattle.record.specs.Fields.{serverOf, pending}
 use Rattle.record.specs.RecordBlock.{recordOf}
 use Rattle.record.specs.declared.subscriber.Record.{Record}
 use Rattle.blocks.specs.Blocks.{blockOf}

@@ -1,5 +1,5 @@
 -- The Data-References of a request: the turns of the walk over its AVPs.
-use Rattle.octets.specs.Standard.{ℕ, _≤_, _≡_, refl, sym, _∙_, List, Bool, true, false, not, _&&_, _||_, or-assoc, or-false, length, drop, eqb}
+use Rattle.octets.specs.Standard.{ℕ, _≤_, _≡_, refl, sym, _∙_, List, Bool, false, not, _&&_, _||_, or-assoc, or-false, length, drop, eqb}
 use Rattle.diameter.specs.Avp.{valueOf}
 use Rattle.diameter.specs.Message.{bodyOf}
 use Rattle.diameter.specs.Reader.{readOf, ownOf}
@@ -9,7 +9,6 @@ use Rattle.diameter.specs.declared.Read.{Read}
 use Rattle.diameter.proofs.Reading.{read-says, read-unsound, walk-past}
 use Rattle.reading.specs.Kinds.{kindOf, dataReference}
 use Rattle.requests.proofs.Requests.{at-fault}
-use Rattle.user_data.specs.declared.References.{References}
 use Rattle.sh.specs.Referring.{refers, refersOther, referencesOf}
 use Rattle.diameter.specs.declared.Read.the-variants as read
 

@@ -1,7 +1,7 @@
 -- How long an answer is at the most: it fits.
-use Rattle.octets.specs.Standard.{ℕ, _+_, _≤_, _%_, List, [], Bool, true, false, cond, _≡_, refl, arith, eqb, length, length-append}
+use Rattle.octets.specs.Standard.{ℕ, _+_, _≤_, List, [], Bool, true, false, cond, _≡_, arith, eqb, length, length-append}
 use Rattle.record.specs.Fields.{stateOf, bitsOf, serverOf, pending}
-use Rattle.blocks.specs.Blocks.{blockOf, ofBlock}
+use Rattle.blocks.specs.Blocks.{blockOf}
 use Rattle.table.specs.SoundTable.{SoundTable}
 use Rattle.diameter.specs.Message.{bodyOf}
 use Rattle.reading.specs.declared.Terms.{Terms}

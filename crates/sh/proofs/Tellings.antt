@@ -1,7 +1,6 @@
 -- What is told, by what reading a request found and what the table holds.
-use Rattle.octets.specs.Standard.{ℕ, _≤_, List, Bool, true, false, _≡_, refl, sym, _∙_, arith, length}
+use Rattle.octets.specs.Standard.{ℕ, _≤_, List, Bool, true, false, _≡_, refl, _∙_, arith, length}
 use Rattle.diameter.specs.Message.{bodyOf}
-use Rattle.table.specs.SoundTable.{SoundTable}
 use Rattle.lookup.specs.Among.{Among}
 use Rattle.lookup.specs.Find.{findPublic}
 use Rattle.lookup.specs.declared.Found.{Found}

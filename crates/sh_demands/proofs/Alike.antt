@@ -1,11 +1,8 @@
 -- Two tables of which a request sees the same get the same answer.
-use Rattle.octets.specs.Standard.{ℕ, zero, suc, List, [], Bool, true, false, cond, _≡_, refl, sym, ap, _∙_, arith, eqb, ne-eqb, length}
-use Rattle.record.specs.Fields.{hostOf, realmOf, stateOf, bitsOf, serverOf, pending}
+use Rattle.octets.specs.Standard.{ℕ, zero, suc, List, Bool, true, false, cond, _≡_, refl, ap, arith, ne-eqb}
+use Rattle.record.specs.Fields.{hostOf, realmOf}
 use Rattle.blocks.specs.Blocks.{blockOf}
-use Rattle.table.specs.Area.{tableIn}
-use Rattle.table.specs.SoundTable.{SoundTable}
 use Rattle.diameter.specs.Message.{bodyOf}
-use Rattle.reading.specs.Rules.{Seen}
 use Rattle.reading.specs.declared.Dialect.{Dialect}
 use Rattle.reading.specs.declared.Terms.{Terms}
 use Rattle.reading.specs.declared.Verdict.{Verdict}

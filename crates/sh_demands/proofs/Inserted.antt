@@ -1,44 +1,38 @@
 -- Demand 3 for the Sh server: AVPs of kinds that it does not know put into a request after its first AVP.
-use Rattle.octets.specs.Standard.{ℕ, zero, suc, _+_, _%_, _≤_, List, [], _∷_, _++_, Bool, true, false, cond, _&&_, not, _≡_, refl, sym, ap, _∙_, arith}
+use Rattle.octets.specs.Standard.{ℕ, zero, suc, _+_, _%_, _≤_, _<_, List, [], _∷_, _++_, Bool, true, false, cond, not, _≡_, refl, sym, _∙_, arith}
 use Rattle.octets.specs.Standard.{eqb, zero-add, ne-eqb, length}
-use Rattle.octets.specs.Run.{over}
-use Rattle.blocks.specs.Blocks.{blockOf}
-use Rattle.blocks.specs.declared.Checked.{Checked}
 use Rattle.table.specs.Area.{tableIn, checkArea}
-use Rattle.diameter.specs.Avp.{valueOf}
-use Rattle.diameter.specs.Message.{bodyOf}
 use Rattle.diameter.specs.Put.{glue, Piece, bytesOf, avpsOf, Whole, All}
-use Rattle.diameter.specs.Walk.{Walk, avp, walk, someAvp}
-use Rattle.reading.specs.Kinds.{known, kindOf, rowOf, useIn, isUnknown, dataReference}
+use Rattle.diameter.specs.Walk.{Walk, avp, walk}
+use Rattle.reading.specs.Kinds.{known, kindOf, rowOf, useIn, isUnknown, sh, dataReference}
 use Rattle.reading.specs.Rules.{Seen}
 use Rattle.reading.specs.Verdicts.{faultAt}
 use Rattle.reading.specs.declared.Dialect.{Dialect}
 use Rattle.reading.specs.declared.Terms.{Terms}
 use Rattle.reading.specs.declared.Verdict.{Verdict}
-use Rattle.requests.specs.Judged.{Judged, bad, fine}
-use Rattle.requests.specs.Request.{dialectOf, underSh, spokenSh, headerFaultSh, readWalk, readSh, sessionOf, identityOf}
-use Rattle.requests.proofs.Kept.{sh-command}
-use Rattle.lookup.specs.Find.{findPublic}
+use Rattle.requests.specs.Judged.{Judged, fine}
+use Rattle.requests.specs.Request.{dialectOf, spokenSh, headerFaultSh, readSh, sessionOf}
 use Rattle.failed.specs.Failing.{failedBy}
 use Rattle.refusals.specs.Early.{checkValue, wrongSize, wrongLength, noRequest}
 use Rattle.refusals.specs.Trial.{Trial, tried}
-use Rattle.envelope.specs.End.{failedPart, proxies, endBytes}
+use Rattle.refusals.proofs.Trials.{tried-alike}
+use Rattle.envelope.specs.End.{proxies, endBytes}
 use Rattle.envelope.specs.Header.{headerBytes}
-use Rattle.user_data.specs.declared.References.{References}
 use Rattle.sh.specs.Answer.{toldBytes, shBody, shAnswer}
 use Rattle.sh.specs.Referring.{refers, refersOther, referencesOf}
-use Rattle.sh.specs.Tell.{denied, tellNone, tellRecord, tellFound, tellRead, tellJudged, tell}
+use Rattle.sh.specs.Tell.{tellNone, tellRead, tellJudged, tell}
 use Rattle.sh.specs.declared.telling.Telling.{Telling}
 use Rattle.sh.proofs.Tellings.{read-clear}
 use Rattle.ndushavire_sh.specs.Lent.{Lent, termsIn, dialectIn}
-use Rattle.ndushavire_sh.specs.Serve.{Served, trialsOf, refused, toldOf, answerOf, answered, serveChecked, shServe}
+use Rattle.ndushavire_sh.specs.Serve.{trialsOf, refused, toldOf, answered, serveChecked, shServe}
 use Rattle.demands.specs.Insertion.{message, requestOf, Foreign, Quiet, Inserted, keep, FirstMarked, faultBy, putBefore, later, placeNow, behindRow}
 use Rattle.demands.proofs.Messages.{message-dialect, message-fault-by, message-flags, message-rest, message-body, readBodyBy, Fit, size-right, length-right}
 use Rattle.demands.proofs.Moved.{Moved, faults, same, past-bytes}
 use Rattle.demands.proofs.Rows.{foreign-proxies, foreign-some, quiet-foreign, none-before, placeBehind, long-walk, short-walk, long-fit, short-fit, unmarked-moved}
 use Rattle.demands.proofs.Rows.{marked-inserted, before-whole, fault-moved, mark-judges, mark-failed}
 use Rattle.sh_demands.specs.Call.{turnedAway}
-use Rattle.sh_demands.specs.Insertion.{asking, placed, faultBody, faultBytes, blaming}
+use Rattle.sh_demands.specs.Insertion.{asking, placed, faultBytes, blaming}
+use Rattle.sh_demands.proofs.Blaming.{fault-bytes-are}
 use Rattle.sh_demands.proofs.Refusing.{answer-is}
 
 -- What every refusal keeps goes through the trials to the answer.
@@ -103,10 +97,10 @@ module _ (head : List ℕ) (twenty : length head ≡ 20) (b c : List ℕ) (x : L
   abbrev short : List ℕ
   short = message head c
 
-  module _ (refs : d .command ≡ 306 → referencesOf (walk b) ≡ referencesOf (walk c)) (t : List ℕ) (count : ℕ) where
+  module _ (refs : referencesOf (walk b) ≡ referencesOf (walk c)) (t : List ℕ) (count : ℕ) where
     read-same : (seen : Seen) → readSh d short ≡ fine seen → tellRead long t count seen ≡ tellRead short t count seen
     unfolding tellRead
-    read-same seen is = rw (message-body head twenty b, message-body head twenty c, refs (sh-command d short seen is))
+    read-same seen is = rw (message-body head twenty b, message-body head twenty c, refs)
 
     judged-same : {from : ℕ} {more : ℕ → ℕ} → more 0 ≡ 0 → {j k : Judged} → readSh d short ≡ k → Moved long short from more j k
         → SameAnswered long short t (tellJudged long t count j) (tellJudged short t count k)
@@ -149,7 +143,18 @@ module _ (x : Lent) (req other : List ℕ) (size : wrongSize req ≡ wrongSize o
   turned-same : turnedAway (asking x req) ≡ turnedAway (asking x other)
   turned-same = rw (size, long, asks)
 
--- Data-References are known to a User-Data-Request, so no AVP of an unknown kind is one.
+  -- where one of them holds, the answer does not matter, and there is no place to move
+  refused-through : (f : ℕ → ℕ) → turnedAway (asking x other) ≡ true → shServe (asking x req) ≡ placed f (shServe (asking x other))
+  unfolding serveChecked refused
+  refused-through f e =
+      let c = checkArea (x .table) (length (x .profile)) in
+      let here = answered (asking x req) (checkValue c) in
+      let there = answered (asking x other) (checkValue c) in
+      rw (size, long, asks)
+      (tried-alike (refused (asking x other)) here (placed f there) (trialsOf (asking x other) c) e
+      ∙ tried-through (placed f) (refused (asking x other)) (placed f there) there (λ r. refl) refl (trialsOf (asking x other) c))
+
+-- Data-References are known to Sh, so no AVP of an unknown kind is one.
 refers-less : (n : ℕ) (a : List ℕ) → eqb (kindOf a) dataReference ≡ false → refers n a ≡ false
 unfolding refers
 refers-less n a e = rw e
@@ -158,11 +163,11 @@ other-less : (a : List ℕ) → eqb (kindOf a) dataReference ≡ false → refer
 unfolding refersOther
 other-less a e = rw e
 
-reference-known : (d : Dialect) → d .command ≡ 306 → isUnknown (useIn d (rowOf dataReference)) ≡ false
+reference-known : (d : Dialect) → d .terms .application ≡ sh → isUnknown (useIn d (rowOf dataReference)) ≡ false
 unfolding useIn rowOf known
 reference-known d e = rw e
 
-foreign-references : (d : Dialect) → d .command ≡ 306 → {qs rs : List Piece} → Inserted (Foreign d) qs rs → (w : Walk)
+foreign-references : (d : Dialect) → d .terms .application ≡ sh → {qs rs : List Piece} → Inserted (Foreign d) qs rs → (w : Walk)
     → referencesOf (glue (avpsOf rs) w) ≡ referencesOf (glue (avpsOf qs) w)
 unfolding referencesOf
 foreign-references d e i w =
@@ -198,9 +203,9 @@ module _ (head : List ℕ) (twenty : length head ≡ 20) (q : Piece) (qs rs : Li
     unfolding avpsOf glue
     copies-same = rw (walks .0, walks .1) (foreign-proxies (keep q i) (walk tail))
 
-    refs-same : dialect .command ≡ 306 → referencesOf (walk b) ≡ referencesOf (walk c)
+    refs-same : referencesOf (walk b) ≡ referencesOf (walk c)
     unfolding avpsOf glue
-    refs-same e = rw (walks .0, walks .1) (foreign-references dialect e (keep q i) (walk tail))
+    refs-same = rw (walks .0, walks .1) (foreign-references dialect refl (keep q i) (walk tail))
 
     fits : Fit b × Fit c
     fits = (long-fit head twenty q qs rs whole tail fours most dialect i, short-fit head twenty q qs rs whole tail fours most dialect i)
@@ -227,6 +232,10 @@ module _ (head : List ℕ) (twenty : length head ≡ 20) (q : Piece) (qs rs : Li
         (s .0) in
         rw (e, s .1))
 
+    pub both-refused : (f : ℕ → ℕ) → turnedAway (asking x (message head c)) ≡ true
+        → shServe (asking x (message head b)) ≡ placed f (shServe (asking x (message head c)))
+    both-refused = refused-through x (message head b) (message head c) size-same length-same asks-same
+
     both-turned : turnedAway (asking x (message head b)) ≡ turnedAway (asking x (message head c))
     both-turned = turned-same x (message head b) (message head c) size-same length-same asks-same
 
@@ -238,11 +247,15 @@ module _ (head : List ℕ) (twenty : length head ≡ 20) (q : Piece) (qs rs : Li
 
   -- one is the first that is marked: a fault before it decides, or it does
   module _ (m : FirstMarked dialect qs rs) where
+    pub fault-more : (more : ℕ → ℕ) → more 0 ≡ 0
+        → ((p : ℕ) → 20 ≤ p → p < placeBehind q (m .front) → putBefore (keep q (m .quiet)) 20 p ≡ more p)
+        → faultBy fault dialect (q ∷ m .front) ≡ true → shServe (asking x (message head b)) ≡ placed (later more) (shServe (asking x (message head c)))
+    fault-more more start before e =
+        both-served (marked-inserted m) start (fault-moved head twenty q qs rs whole tail fours most dialect fault m more start before e)
+
     pub fault-first : faultBy fault dialect (q ∷ m .front) ≡ true
         → shServe (asking x (message head b)) ≡ placed (placeNow (keep q (m .quiet))) (shServe (asking x (message head c)))
-    fault-first e =
-        both-served (marked-inserted m) (none-before q (m .quiet))
-        (fault-moved head twenty q qs rs whole tail fours most dialect fault m (putBefore (keep q (m .quiet)) 20) (none-before q (m .quiet)) (λ p l h. refl) e)
+    fault-first = fault-more (putBefore (keep q (m .quiet)) 20) (none-before q (m .quiet)) (λ p l h. refl)
 
     abbrev place : ℕ
     place = placeBehind q (m .before)
@@ -258,8 +271,8 @@ module _ (head : List ℕ) (twenty : length head ≡ 20) (q : Piece) (qs rs : Li
 
     mark-bytes : (t : List ℕ)
         → shAnswer (termsIn x) (message head b) t (tellNone (faultAt 5001 place)) ≡ faultBytes (termsIn x) (message head b) t 5001 (m .mark .avp)
-    unfolding shAnswer shBody toldBytes endBytes
-    mark-bytes t = rw (mark-failed head twenty q qs rs whole tail fours most dialect fault m)
+    mark-bytes t =
+        fault-bytes-are (termsIn x) (message head b) t 5001 place (m .mark .avp) (mark-failed head twenty q qs rs whole tail fours most dialect fault m)
 
     pub mark-answered : faultBy fault dialect (q ∷ m .front) ≡ false → turnedAway (asking x (message head c)) ≡ false
         → shServe (asking x (message head b)) ≡ blaming (asking x (message head b)) 5001 (m .mark .avp) (behindRow (q ∷ m .before))

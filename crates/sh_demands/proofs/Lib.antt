@@ -1,6 +1,10 @@
 pub mod Alike
+pub mod Blaming
 pub mod Demands
 pub mod Inserted
+pub mod Longer
+pub mod Peers
+pub mod Place
 pub mod Refusing
 pub mod Returning
 pub mod Saying

@@ -1,17 +1,14 @@
 -- Demand 1 for the Sh server: an answer, or exactly one of six refusals; what a refused call leaves, and what an answered one writes.
-use Rattle.octets.specs.Standard.{ℕ, _≤_, _<_, List, Bool, true, false, true≢false, _≡_, refl, sym, ap, _∙_, arith, length, drop, drop-at}
+use Rattle.octets.specs.Standard.{ℕ, _≤_, Bool, true, false, true≢false, _≡_, refl, sym, ap, _∙_, arith, length, drop, drop-at}
 use Rattle.octets.specs.Run.{over}
 use Rattle.blocks.specs.declared.Checked.{Checked}
-use Rattle.blocks.specs.declared.Checked.the-variants.{Sound, Bad}
-use Rattle.diameter.specs.Put.{All}
+use Rattle.blocks.specs.declared.Checked.the-variants.{Sound}
 use Rattle.table.specs.Area.{tableIn, checkArea}
-use Rattle.table.specs.SoundTable.{SoundTable}
 use Rattle.refusals.specs.Early.{checkValue, early}
-use Rattle.refusals.specs.Passed.{Passed}
 use Rattle.refusals.specs.Trial.{Trial}
 use Rattle.refusals.proofs.Passing.{passes}
 use Rattle.refusals.proofs.Trials.{tried-by}
-use Rattle.calling.specs.Call.{Answer, Call, Answered, Refused}
+use Rattle.calling.specs.Call.{Answer, Answered}
 use Rattle.sh.proofs.Rooms.{answer-fits}
 use Rattle.ndushavire.specs.Reads.{callNumber, callValue}
 use Rattle.ndushavire_sh.specs.Lent.{Lent, termsIn}
@@ -28,7 +25,7 @@ module _ (x : Lent) where
   answer = answered x (checkValue checked)
 
   -- What holds of any refusal, and of the answer, holds of the call.
-  any-call : (P : Bool → Served → Type 0) → ((r : Trial) → P true (refused x r)) → P false answer → P (turnedAway x) (shServe x)
+  pub any-call : (P : Bool → Served → Type 0) → ((r : Trial) → P true (refused x r)) → P false answer → P (turnedAway x) (shServe x)
   unfolding serveChecked
   any-call P f o = tried-by P (λ r. Unit) (refused x) answer (λ r q h. f r) o (trialsOf x checked) (tt, (tt, (tt, (tt, (tt, (tt, tt))))))
 

@@ -1,5 +1,5 @@
 -- What a call of the Sh server returns: its number, what is returned besides, and the word that says both.
-use Rattle.octets.specs.Standard.{ℕ, _≤_, _<_, List, Bool, true, false, true≢false, _≡_, refl, sym, ap, _∙_, _⊎_, inl, inr, _≢_, arith, length}
+use Rattle.octets.specs.Standard.{ℕ, _≤_, _<_, Bool, true, false, true≢false, _≡_, refl, sym, ap, _∙_, _⊎_, inl, inr, _≢_, arith, length}
 use Rattle.octets.proofs.Writes.{over-length}
 use Rattle.blocks.specs.declared.Checked.{Checked}
 use Rattle.blocks.specs.declared.Checked.the-variants.{Sound, Bad}
@@ -12,7 +12,7 @@ use Rattle.refusals.proofs.Passing.{passes, neither}
 use Rattle.refusals.proofs.Trials.{tried-by}
 use Rattle.calling.specs.Call.{Answer, Call, Answered, Refused}
 use Rattle.sh.proofs.Tellings.{tell-bounds}
-use Rattle.ndushavire.specs.Reads.{callNumber, callValue, callIn, Reads}
+use Rattle.ndushavire.specs.Reads.{callNumber, callValue, Reads}
 use Rattle.ndushavire.specs.Word.{callWord}
 use Rattle.ndushavire_sh.specs.Lent.{Lent, termsIn, dialectIn}
 use Rattle.ndushavire_sh.specs.Serve.{Served, trialsOf, toldOf, refused, answerOf, answered, serveChecked, shServe}
@@ -124,7 +124,7 @@ module _ (x : Lent) where
       let g = neither (isBad checked) _ (f .1) in
       record { none = rw (a .0, b .0, c .0, d .0, f .0); table = good-count checked (g .0) }
 
-  passed : turnedAway x ≡ false → Passed (x .request) (x .buffer)
+  pub passed : turnedAway x ≡ false → Passed (x .request) (x .buffer)
   passed e = passes (termsIn x) (x .request) (x .buffer) refl (omega (arith, taken e .none))
 
   short : turnedAway x ≡ false → length (answerOf x (checkValue checked)) ≤ 36864

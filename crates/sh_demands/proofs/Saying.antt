@@ -1,5 +1,5 @@
 -- Which answer a User-Data-Request gets that was read, and what its 702 says.
-use Rattle.octets.specs.Standard.{ℕ, _≤_, List, Bool, true, false, true≢false, _≡_, _≢_, refl, sym, ap, _∙_, arith, eqb, ne-eqb, length}
+use Rattle.octets.specs.Standard.{ℕ, List, Bool, true, false, _≡_, _≢_, refl, sym, ap, _∙_, arith, eqb, ne-eqb, length}
 use Rattle.record.specs.Fields.{stateOf, bitsOf, serverOf, pending}
 use Rattle.blocks.specs.Blocks.{blockOf}
 use Rattle.blocks.specs.declared.Checked.the-variants.{Sound}
@@ -18,7 +18,7 @@ use Rattle.requests.specs.Judged.{fine}
 use Rattle.requests.specs.Request.{readSh, identityOf}
 use Rattle.user_data.specs.UserData.{shData, userDataBytes}
 use Rattle.user_data.specs.declared.References.{References}
-use Rattle.user_data.proofs.Told.{tells-name, tells-state}
+use Rattle.user_data.proofs.Told.{shows-name, shows-clean, tells-name, tells-state}
 use Rattle.sh.specs.Answer.{recordBytes, toldBytes, shBody, shAnswer}
 use Rattle.sh.specs.Referring.{referencesOf}
 use Rattle.sh.specs.Tell.{denied, tellRecord, tellFound, tellRead, tellJudged, tell}
@@ -26,7 +26,7 @@ use Rattle.sh.specs.declared.telling.Telling.{Telling}
 use Rattle.ndushavire_sh.specs.Lent.{Lent, dialectIn}
 use Rattle.ndushavire_sh.specs.Serve.{toldOf, answered, shServe}
 use Rattle.sh_demands.specs.Call.{turnedAway}
-use Rattle.sh_demands.specs.Saying.{Holds, asksOther, Known, saying, Says}
+use Rattle.sh_demands.specs.Saying.{Holds, refersElse, Known, saying, Says}
 use Rattle.sh_demands.proofs.Refusing.{answered-is}
 
 module _ (x : Lent) (count : ℕ) (sound : checkArea (x .table) (length (x .profile)) ≡ Sound count) (seen : Seen)
@@ -70,11 +70,11 @@ module _ (x : Lent) (count : ℕ) (sound : checkArea (x .table) (length (x .prof
   unfolding tellFound
   tells-unknown f = told-by ∙ rw (no-found t count name (λ j a b q. f j (record { from = a; to = b; named = q })))
 
-  tells-other : (k : ℕ) → Holds x count name k → asksOther x ≡ true → toldOf x count ≡ denied 5100
+  tells-other : (k : ℕ) → Holds x count name k → refersElse x ≡ true → toldOf x count ≡ denied 5100
   unfolding tellFound tellRecord referencesOf
   tells-other k h e = told-by ∙ rw (found-by k h, e)
 
-  tells-known : (k : ℕ) → Holds x count name k → asksOther x ≡ false → toldOf x count ≡ granted k
+  tells-known : (k : ℕ) → Holds x count name k → refersElse x ≡ false → toldOf x count ≡ granted k
   unfolding tellFound tellRecord referencesOf
   tells-known k h e = told-by ∙ rw (found-by k h, e)
 
@@ -84,9 +84,9 @@ module _ (x : Lent) (count : ℕ) (sound : checkArea (x .table) (length (x .prof
 
   pub unknown-only : result ≡ Experimental 5001 → (k : ℕ) → Holds x count name k → ⊥
   unfolding numberOf
-  unknown-only e k h = go (asksOther x) refl
+  unknown-only e k h = go (refersElse x) refl
     where
-      go : (b : Bool) → asksOther x ≡ b → ⊥
+      go : (b : Bool) → refersElse x ≡ b → ⊥
       go true f = differ (denied 5001) (denied 5100) (λ z. omega (arith, z)) e (tells-other k h f)
       go false f = differ (denied 5001) (granted k) (λ z. omega (arith, z)) e (tells-known k h f)
 
@@ -98,18 +98,18 @@ module _ (x : Lent) (count : ℕ) (sound : checkArea (x .table) (length (x .prof
 
   pub other-only : result ≡ Experimental 5100 → Known x count name true
   unfolding numberOf
-  other-only r = go (findPublic t count name) (asksOther x) refl refl
+  other-only r = go (findPublic t count name) (refersElse x) refl refl
     where
-      go : (f : Found) (o : Bool) → findPublic t count name ≡ f → asksOther x ≡ o → Known x count name true
+      go : (f : Found) (o : Bool) → findPublic t count name ≡ f → refersElse x ≡ o → Known x count name true
       go Nothing o e g = absurd (differ (denied 5100) (denied 5001) (λ z. omega (arith, z)) r (tells-nothing e))
       go (At k) true e g = record { block = k; holds = holds-at k e; other = g }
       go (At k) false e g = absurd (differ (denied 5100) (granted k) (λ z. omega (arith, z)) r (tells-known k (holds-at k e) g))
 
   pub known-only : result ≡ Base 2001 → Known x count name false
   unfolding numberOf
-  known-only r = go (findPublic t count name) (asksOther x) refl refl
+  known-only r = go (findPublic t count name) (refersElse x) refl refl
     where
-      go : (f : Found) (o : Bool) → findPublic t count name ≡ f → asksOther x ≡ o → Known x count name false
+      go : (f : Found) (o : Bool) → findPublic t count name ≡ f → refersElse x ≡ o → Known x count name false
       go Nothing o e g = absurd (differ (granted 0) (denied 5001) (λ z. omega (arith, z)) r (tells-nothing e))
       go (At k) true e g = absurd (differ (granted 0) (denied 5100) (λ z. omega (arith, z)) r (tells-other k (holds-at k e) g))
       go (At k) false e g = record { block = k; holds = holds-at k e; other = g }
@@ -123,10 +123,10 @@ module _ (x : Lent) (count : ℕ) (sound : checkArea (x .table) (length (x .prof
     pub says-unknown : ((k : ℕ) → Holds x count name k → ⊥) → shServe x ≡ saying x (denied 5001)
     says-unknown f = says (denied 5001) (tells-unknown f)
 
-    pub says-other : (k : ℕ) → Holds x count name k → asksOther x ≡ true → shServe x ≡ saying x (denied 5100)
+    pub says-other : (k : ℕ) → Holds x count name k → refersElse x ≡ true → shServe x ≡ saying x (denied 5100)
     says-other k h e = says (denied 5100) (tells-other k h e)
 
-    pub says-record : (k : ℕ) → Holds x count name k → asksOther x ≡ false → Says x (blockOf t k) (shServe x)
+    pub says-record : (k : ℕ) → Holds x count name k → refersElse x ≡ false → Says x (blockOf t k) (shServe x)
     unfolding shAnswer shBody toldBytes recordBytes userDataBytes referencesOf
     says-record k h e =
         let b = blockOf t k in
@@ -134,6 +134,8 @@ module _ (x : Lent) (count : ℕ) (sound : checkArea (x .table) (length (x .prof
         record {
           text = shData asked (stateOf b) (pending (bitsOf b)) (serverOf b);
           answers = says (granted k) (tells-known k h e) ∙ rw some;
+          shown = shows-name asked (stateOf b) (pending (bitsOf b)) (serverOf b);
+          clean = shows-clean asked (stateOf b) (pending (bitsOf b)) (serverOf b);
           name = tells-name asked (stateOf b) (pending (bitsOf b)) (serverOf b);
           state = tells-state asked (stateOf b) (pending (bitsOf b)) (serverOf b);
         }

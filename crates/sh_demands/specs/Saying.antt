@@ -1,9 +1,9 @@
 -- What a call says of the record that a User-Data-Request asks about.
 use Prim.Native.Nat.{ℕ, _+_, _≤_}
 use mathlib.Core.Path.{_≡_}
-use mathlib.Core.Bool.{Bool, cond, _&&_}
+use mathlib.Core.Bool.{Bool, true, cond, _&&_}
 use mathlib.Core.List.{List, [], _∷_, _++_}
-use mathlib.Core.Option.{Option, none, some}
+use mathlib.Core.Option.{none, some}
 use lib.ListN.{length}
 use lib.Dec.{ltb}
 use Rattle.octets.specs.Run.{over}
@@ -21,8 +21,9 @@ use Rattle.envelope.specs.End.{endBytes}
 use Rattle.envelope.specs.Front.{frontBytes, originBytes}
 use Rattle.envelope.specs.Header.{headerBytes}
 use Rattle.calling.specs.Call.{Answered}
-use Rattle.user_data.specs.Elements.{nameTold, stateTold}
-use Rattle.user_data.specs.UserData.{userState}
+use Rattle.markup.specs.Escapes.{escaped, noneBare}
+use Rattle.user_data.specs.Elements.{inside, nameTold, stateTold}
+use Rattle.user_data.specs.UserData.{nameStart, nameEnd, userState}
 use Rattle.sh.specs.Answer.{shAnswer}
 use Rattle.sh.specs.Referring.{refers, refersOther}
 use Rattle.sh.specs.declared.telling.Telling.{Telling}
@@ -36,17 +37,17 @@ pub record Holds (x : Lent) (count : ℕ) (name : List ℕ) (k : ℕ) : Type 0 w
   pub named : publicAt (tableIn (x .table)) k ≡ name
 
 -- the request has a Data-Reference of a number; one that is neither 11 nor 12
-abbrev pub asks : Lent → ℕ → Bool
-asks x n = someAvp (refers n) (bodyOf (x .request))
+abbrev pub refersTo : Lent → ℕ → Bool
+refersTo x n = someAvp (refers n) (bodyOf (x .request))
 
-abbrev pub asksOther : Lent → Bool
-asksOther x = someAvp refersOther (bodyOf (x .request))
+abbrev pub refersElse : Lent → Bool
+refersElse x = someAvp refersOther (bodyOf (x .request))
 
 -- one of the records has it, and there is such a Data-Reference or none
 pub record Known (x : Lent) (count : ℕ) (name : List ℕ) (yes : Bool) : Type 0 where
   pub block : ℕ
   pub holds : Holds x count name block
-  pub other : asksOther x ≡ yes
+  pub other : refersElse x ≡ yes
 
 -- the call that is answered with what is told
 abbrev pub saying : Lent → Telling → Served
@@ -63,9 +64,12 @@ textBody x text =
 abbrev pub textBytes : Lent → List ℕ → List ℕ
 textBytes x text = headerBytes (x .request) (Base 2001) (20 + length (textBody x text)) ++ textBody x text
 
--- a call is answered so, and the text read back says the name that a record's block stores and its state, each if it was asked for
+-- A call is answered so. Between the name's tags stands the name that a record's block stores, escaped, "with markup characters escaped", and nothing bare; and the
+-- text read back says that name and the record's state, each if it was asked for.
 pub record Says (x : Lent) (b : List ℕ) (s : Served) : Type 0 where
   pub text : List ℕ
   pub answers : s ≡ record { call = Answered (record { length = length (textBytes x text); place = 0 }); buffer = over (textBytes x text) (x .buffer) }
-  pub name : nameTold text ≡ cond (asks x 12 && ltb 0 (length (serverOf b))) (some (serverOf b)) none
-  pub state : stateTold text ≡ cond (asks x 11) (some ((0x30 + userState (stateOf b) (pending (bitsOf b))) ∷ [])) none
+  pub shown : inside nameStart nameEnd text ≡ cond (refersTo x 12 && ltb 0 (length (serverOf b))) (some (escaped (serverOf b))) none
+  pub clean : (n : List ℕ) → inside nameStart nameEnd text ≡ some n → noneBare n ≡ true
+  pub name : nameTold text ≡ cond (refersTo x 12 && ltb 0 (length (serverOf b))) (some (serverOf b)) none
+  pub state : stateTold text ≡ cond (refersTo x 11) (some ((0x30 + userState (stateOf b) (pending (bitsOf b))) ∷ [])) none

@@ -1,3 +1,4 @@
+pub mod Computed
 pub mod Sample
 pub mod Servers
 pub mod Worked

@@ -1,25 +1,20 @@
 -- Wrong servers of the Sh interface, and calls that are computed: at an input whose outcome is known, what a wrong server gives does not meet the promise,
 -- whatever else it gives.
-use Rattle.octets.specs.Standard.{ℕ, _≡_, refl, sym, ap, _∙_, _≢_, List, [], _∷_, _++_, Bool, false, length, getD, take, drop, set, replicate, length-replicate}
-use Rattle.octets.specs.Standard.{arith, ltb}
+use Rattle.octets.specs.Standard.{ℕ, _≡_, refl, sym, ap, _∙_, _≢_, List, [], _∷_, _++_, false, getD, take, drop, set, replicate, arith}
 use Rattle.octets.specs.Run.{over}
-use Rattle.blocks.specs.declared.Checked.{Checked}
-use Rattle.blocks.specs.declared.Checked.the-variants.{Sound, Bad}
+use Rattle.blocks.specs.declared.Checked.the-variants.{Bad}
 use Rattle.table.specs.Area.{tableIn, checkArea}
 use Rattle.pen.specs.Bytes.{vendorBytes, vendorHead, numberBytes}
 use Rattle.pen.specs.Groups.{vendorApplication, experimental, failed}
 use Rattle.requests.specs.Request.{cx, sh}
-use Rattle.refusals.specs.Early.{unknownPeer, smallBuffer, earlyTrials, checkValue, unsound}
-use Rattle.refusals.specs.Trial.{Trial, tried}
 use Rattle.user_data.specs.UserData.{opening, nameStart, nameEnd, stateStart, stateEnd, closing}
-use Rattle.sh.specs.Answer.{shAnswer}
-use Rattle.sh.specs.Tell.{tell}
-use Rattle.calling.specs.Call.{Answered, Refused}
+use Rattle.calling.specs.Call.{Refused}
 use Rattle.ndushavire.specs.Word.{word, callWord}
-use Rattle.ndushavire_sh.specs.Lent.{Lent, lent, termsIn, dialectIn}
+use Rattle.ndushavire_sh.specs.Lent.{Lent, lent}
 use Rattle.ndushavire_sh.specs.Promise.{ShDecidePromise}
-use Rattle.ndushavire_sh.specs.Serve.{Served, refused, answered, serveChecked, shServe}
-use Rattle.sh_example.proofs.Sample.{table, quotes, marks, request, common, udr, identity, outside, state, name, other, ask, reply, opened}
+use Rattle.ndushavire_sh.specs.Serve.{Served, shServe}
+use Rattle.sh_example.proofs.Computed.{known, come, room, roomy, area, asking, served, leaves}
+use Rattle.sh_example.proofs.Sample.{quotes, marks, request, common, udr, identity, outside, state, name, other, ask, reply, opened}
 
 -- what a call leaves
 record CallLeft : Type 0 where
@@ -49,63 +44,6 @@ module _ (f : Server) where
   buffer-given : {x : Lent} {y : Served} → shServe x ≡ y → Meets f x → f x .buffer ≡ y .buffer
   buffer-given e p = p .buffer-is ∙ ap (λ (y : Served). y .buffer) e
 
--- How a call is computed: the buffer stays a variable, and what the area's check answers, and its table, are computed once for all calls.
-abbrev knownTrials : Bool → Checked → Lent → List Trial
-knownTrials small c x =
-    record { holds = unknownPeer (termsIn x); number = 12; besides = 0 }
-    ∷ record { holds = small; number = 1; besides = 0 }
-    ∷ drop 2 (earlyTrials (termsIn x) (x .request) (x .buffer))
-    ++ (unsound c ∷ [])
-
-abbrev knownAnswer : List ℕ → ℕ → Lent → List ℕ
-knownAnswer t count x = shAnswer (termsIn x) (x .request) t (tell (dialectIn x) (x .request) t count)
-
-abbrev knownServed : List ℕ → ℕ → Lent → Served
-knownServed t count x =
-    record {
-      call = Answered (record { length = length (knownAnswer t count x); place = tell (dialectIn x) (x .request) t count .verdict .place });
-      buffer = over (knownAnswer t count x) (x .buffer);
-    }
-
-abbrev known : Bool → Checked → List ℕ → Lent → Served
-known small c t x = tried (refused x) (knownServed t (checkValue c) x) (knownTrials small c x)
-
-come : (x : Lent) {small : Bool} {c : Checked} {t : List ℕ} {y : Served} → smallBuffer (x .buffer) ≡ small → checkArea (x .table) (length (x .profile)) ≡ c
-    → tableIn (x .table) ≡ t → known small c t x ≡ y → shServe x ≡ y
-unfolding serveChecked answered
-come x o e f g = rw (o, e, f) g
-
--- a buffer of the least room; an area that is longer than its table
-room : List ℕ
-room = replicate 36864 0
-
-roomy : smallBuffer room ≡ false
-unfolding room
-roomy = ap (λ (k : ℕ). ltb k 36864) (length-replicate {A = ℕ} 36864 0)
-
-area : List ℕ
-area = table ++ (0xFF ∷ [])
-
-area-sound : checkArea area 0 ≡ Sound 4
-unfolding opened area
-area-sound = refl
-
-area-table : tableIn area ≡ table
-unfolding opened area
-area-table = refl
-
--- a request of a peer that follows RFC 3588, over the area
-asking : List ℕ → Lent
-asking req = lent req area [] room 3588
-
-served : (req : List ℕ) {y : Served} → known false (Sound 4) table (asking req) ≡ y → shServe (asking req) ≡ y
-unfolding asking
-served req e = come (asking req) roomy area-sound area-table e
-
--- an answer of so many bytes, with a place
-abbrev leaves : ℕ → ℕ → List ℕ → Served
-leaves size place bytes = record { call = Answered (record { length = size; place = place }); buffer = over bytes room }
-
 -- the AVP of the result, 12 bytes or, if it is experimental, 32
 verdict : ℕ → List ℕ → List ℕ
 verdict size o = take size (drop 64 o)
@@ -125,7 +63,7 @@ nameIn o = take 16 (drop 195 o)
 
 quote-served : shServe (asking (ask 0x64 name))
     ≡ leaves 248 0 (reply (numberBytes 268 2001) (vendorBytes 702 (opening ++ (nameStart ++ (marks ++ (nameEnd ++ closing))))))
-unfolding opened asking
+unfolding opened
 quote-served = served (ask 0x64 name) refl
 
 quote-fails : (f : Server) → nameIn (f (asking (ask 0x64 name)) .buffer) ≢ marks → Meets f (asking (ask 0x64 name)) → ⊥
@@ -138,18 +76,18 @@ unescaping x =
     record { word = 236; buffer = over (reply (numberBytes 268 2001) (vendorBytes 702 text)) (x .buffer) }
 
 unescaping-fails : Meets unescaping (asking (ask 0x64 name)) → ⊥
-unfolding opened unescaping nameIn asking
+unfolding opened unescaping nameIn
 unescaping-fails = quote-fails unescaping (λ e. omega (arith, ap (λ (o : List ℕ). getD o 0 0) e))
 
 -- 2. One that tells state 0 pending as 0: the digit of `c` must be 3.
-abbrev stateData : ℕ → List ℕ
+abbrev pub stateData : ℕ → List ℕ
 stateData digit = vendorBytes 702 (opening ++ (stateStart ++ (digit ∷ (stateEnd ++ closing))))
 
 digitIn : List ℕ → ℕ
 digitIn o = getD o 198 0
 
-pending-served : shServe (asking (ask 0x63 state)) ≡ leaves 240 0 (reply (numberBytes 268 2001) (stateData 0x33))
-unfolding opened asking
+pub pending-served : shServe (asking (ask 0x63 state)) ≡ leaves 240 0 (reply (numberBytes 268 2001) (stateData 0x33))
+unfolding opened
 pending-served = served (ask 0x63 state) refl
 
 pending-fails : (f : Server) → digitIn (f (asking (ask 0x63 state)) .buffer) ≢ 0x33 → Meets f (asking (ask 0x63 state)) → ⊥
@@ -177,7 +115,7 @@ foreign : Lent
 foreign = asking (request 306 1 (common cx ++ (identity 0x61 ++ state)))
 
 foreign-served : shServe foreign ≡ leaves 152 32 (reply (numberBytes 268 5004) (failed (vendorApplication cx)))
-unfolding opened asking foreign
+unfolding opened foreign
 foreign-served = served (request 306 1 (common cx ++ (identity 0x61 ++ state))) refl
 
 foreign-fails : (f : Server) → verdict 12 (f foreign .buffer) ≢ numberBytes 268 5004 → Meets f foreign → ⊥
@@ -189,7 +127,7 @@ beside : Lent
 beside = asking (udr (outside 128 0x62 ++ (identity 0x61 ++ state)))
 
 beside-served : shServe beside ≡ leaves 240 0 (reply (numberBytes 268 2001) (stateData 0x31))
-unfolding opened asking beside
+unfolding opened beside
 beside-served = served (udr (outside 128 0x62 ++ (identity 0x61 ++ state))) refl
 
 beside-fails : (f : Server) → digitIn (f beside .buffer) ≢ 0x31 → Meets f beside → ⊥
@@ -205,7 +143,7 @@ lone : Lent
 lone = asking (udr (outside 128 0x61 ++ state))
 
 lone-served : shServe lone ≡ leaves 132 0 (reply (numberBytes 268 5005) (failed (vendorBytes 700 [])))
-unfolding opened asking lone
+unfolding opened lone
 lone-served = served (udr (outside 128 0x61 ++ state)) refl
 
 lone-fails : (f : Server) → verdict 12 (f lone .buffer) ≢ numberBytes 268 5005 → Meets f lone → ⊥
@@ -216,7 +154,7 @@ marked : Lent
 marked = asking (udr (outside 192 0x62 ++ (identity 0x61 ++ state)))
 
 marked-served : shServe marked ≡ leaves 136 112 (reply (numberBytes 268 5001) (failed (vendorHead 601 13 ++ (0x62 ∷ []))))
-unfolding opened asking marked
+unfolding opened marked
 marked-served = served (udr (outside 192 0x62 ++ (identity 0x61 ++ state))) refl
 
 marked-fails : (f : Server) → verdict 12 (f marked .buffer) ≢ numberBytes 268 5001 → Meets f marked → ⊥
@@ -224,8 +162,8 @@ unfolding opened verdict
 marked-fails f h p = h (ap (verdict 12) (buffer-given f marked-served p))
 
 -- 5. One that gives X5100, or anything else, before X5001: the identity is unknown, and the data reference is another.
-neither-served : shServe (asking (ask 0x65 other)) ≡ leaves 132 0 (reply (experimental 5001) [])
-unfolding opened asking
+pub neither-served : shServe (asking (ask 0x65 other)) ≡ leaves 132 0 (reply (experimental 5001) [])
+unfolding opened
 neither-served = served (ask 0x65 other) refl
 
 order-fails : (f : Server) → verdict 32 (f (asking (ask 0x65 other)) .buffer) ≢ experimental 5001 → Meets f (asking (ask 0x65 other)) → ⊥
@@ -246,22 +184,22 @@ longer-fails : (f : Server) → f (asking (ask 0x65 other)) .word ≢ word 0 0 1
 longer-fails f h p = h (word-given f neither-served p)
 
 -- 7. One that says another place, or another length: a 703 of five bytes stands at 140.
-wide : Lent
+unfoldable pub wide : Lent
 wide = asking (ask 0x61 (vendorBytes 703 (0 ∷ 0 ∷ 0 ∷ 0 ∷ 11 ∷ [])))
 
-wide-served : shServe wide ≡ leaves 132 140 (reply (numberBytes 268 5014) (failed (vendorHead 703 12)))
-unfolding opened asking wide
+pub wide-served : shServe wide ≡ leaves 132 140 (reply (numberBytes 268 5014) (failed (vendorHead 703 12)))
+unfolding opened wide
 wide-served = served (ask 0x61 (vendorBytes 703 (0 ∷ 0 ∷ 0 ∷ 0 ∷ 11 ∷ []))) refl
 
 place-fails : (f : Server) → f wide .word ≢ word 0 140 132 → Meets f wide → ⊥
 place-fails f h p = h (word-given f wide-served p)
 
 -- The refusals in their order: where one is given, all later ones hold too.
-abbrev turned : ℕ → ℕ → Lent → Served
+abbrev pub turned : ℕ → ℕ → Lent → Served
 turned number besides x = record { call = Refused number besides; buffer = x .buffer }
 
 -- a request of one byte, and nothing besides
-nothing : ℕ → Lent
+unfoldable pub nothing : ℕ → Lent
 nothing peer = lent (1 ∷ []) [] [] [] peer
 
 -- over an area of no bytes
@@ -280,7 +218,7 @@ bare-served : (req : List ℕ) {y : Served} → known false (Bad 0) [] (bare req
 unfolding bare
 bare-served req e = come (bare req) roomy bare-bad bare-table e
 
-peer-served : shServe (nothing 0) ≡ turned 12 0 (nothing 0)
+pub peer-served : shServe (nothing 0) ≡ turned 12 0 (nothing 0)
 unfolding opened nothing
 peer-served = refl
 
@@ -298,14 +236,14 @@ peer-fails : (f : Server) → f (nothing 0) .word ≢ word 12 0 0 → Meets f (n
 peer-fails f h p = h (word-given f peer-served p)
 
 -- 9. One that answers over an unsound table, or names another block than the first bad one, here block 2, or writes into the buffer.
-broken : Lent
+unfoldable pub broken : Lent
 broken = lent (ask 0x61 state) (set area 1024 9) [] room 3588
 
-broken-bad : checkArea (set area 1024 9) 0 ≡ Bad 2
+pub broken-bad : checkArea (set area 1024 9) 0 ≡ Bad 2
 unfolding opened area
 broken-bad = refl
 
-broken-served : shServe broken ≡ turned 5 2 broken
+pub broken-served : shServe broken ≡ turned 5 2 broken
 unfolding opened broken
 broken-served = come broken roomy broken-bad refl refl
 

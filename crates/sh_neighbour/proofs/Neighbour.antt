@@ -19,10 +19,10 @@ use Rattle.refusals.specs.Trial.{tried, anyHolds}
 use Rattle.refusals.proofs.Passing.{neither}
 use Rattle.calling.specs.Call.{Answer, Answered}
 use Rattle.ndushavire.specs.Reads.{callValue}
-use Rattle.ndushavire_sh.specs.Lent.{Lent, lent, termsIn}
+use Rattle.ndushavire_sh.specs.Lent.{Lent, termsIn}
 use Rattle.ndushavire_sh.specs.Serve.{toldOf, answerOf, refused, answered, serveChecked, shServe}
 use Rattle.sh_demands.specs.Call.{turnedAway}
-use Rattle.sh_demands.specs.Shown.{SameShown, SameFound, SameSight}
+use Rattle.sh_demands.specs.Shown.{SameFound, SameSight}
 use Rattle.sh_demands.proofs.Demands.{sh-demand-2, sh-neighbours-line}
 use Rattle.sh_demands.proofs.Refusing.{answered-taken}
 use Rattle.sh_neighbour.specs.Asked.{SameAsked}

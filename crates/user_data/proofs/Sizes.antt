@@ -1,10 +1,10 @@
 -- How long the bytes of 702 are.
-use Rattle.octets.specs.Standard.{ℕ, _+_, _*_, _≤_, Bool, true, false, cond, _&&_, _≡_, refl, List, arith, eqb, ltb, length, length-append}
+use Rattle.octets.specs.Standard.{ℕ, _+_, _≤_, Bool, true, _&&_, _≡_, refl, List, arith, ltb, length, length-append}
 use Rattle.markup.specs.Escapes.{escaped}
 use Rattle.markup.proofs.Escaping.{escaped-most}
 use Rattle.pen.specs.Bytes.{copiedSize, vendorSize, ifThere}
 use Rattle.pen.proofs.Sizes.{there-length, vendor-length}
-use Rattle.user_data.specs.UserData.{opening, nameEnd, closing, userState, nameText, stateText, nameElement, stateElement, shText, shData}
+use Rattle.user_data.specs.UserData.{nameEnd, userState, nameText, stateText, nameElement, stateElement, shText, shData}
 use Rattle.user_data.specs.UserData.{userDataBytes}
 use Rattle.user_data.specs.declared.References.{References}
 

@@ -1,12 +1,12 @@
 -- What 702 says of the server name and the state is what it was given.
 use Rattle.octets.specs.Standard.{ℕ, _+_, _≤_, Bool, true, false, cond, _&&_, _≡_, refl, sym, ap, _∙_, List, [], _∷_, _++_, append-assoc, arith, eqb, ltb}
-use Rattle.octets.specs.Standard.{length, ne-eqb, append-nil, Option, none, some}
-use Rattle.markup.specs.Escapes.{escapes, escapeBy, escapeOf, escaped, begins}
-use Rattle.markup.proofs.Escaping.{each-byte, escape-other, unescaped-escaped}
+use Rattle.octets.specs.Standard.{length, ne-eqb, append-nil, none, some, Option·none-ne-some}
+use Rattle.markup.specs.Escapes.{escapes, escapeBy, escapeOf, escaped, begins, noneBare}
+use Rattle.markup.proofs.Escaping.{each-byte, escape-other, unescaped-escaped, none-bare}
 use Rattle.pen.specs.Bytes.{ifThere}
-use Rattle.user_data.specs.UserData.{opening, nameStart, nameEnd, stateStart, stateEnd, closing, userState, nameText, stateText, nameElement, stateElement}
+use Rattle.user_data.specs.UserData.{opening, nameStart, nameEnd, stateStart, closing, userState, nameText, stateText, nameElement, stateElement}
 use Rattle.user_data.specs.UserData.{shText, shData}
-use Rattle.user_data.specs.Elements.{behind, upTo, insideIf, inside, unescapedIf, nameTold, stateTold}
+use Rattle.user_data.specs.Elements.{behind, upTo, inside, unescapedIf, nameTold, stateTold}
 use Rattle.user_data.specs.declared.References.{References}
 
 -- No tag begins in an escaped name, since `<` is none of its bytes.
@@ -50,9 +50,9 @@ module _ (n : ℕ) (h : n ≤ 3) where
   digit = ne-eqb (0x30 + n) 0x3C (λ e. omega arith)
 
   name-in : (x y : Bool) (name : List ℕ)
-      → nameTold (opening ++ (ifThere x (nameText name) ++ (ifThere y (stateText n) ++ closing))) ≡ cond x (some name) none
-  unfolding nameTold behind begins ifThere nameText stateText
-  name-in true y name = rw (name-ends name (ifThere y (stateText n) ++ closing), unescaped-escaped name)
+      → inside nameStart nameEnd (opening ++ (ifThere x (nameText name) ++ (ifThere y (stateText n) ++ closing))) ≡ cond x (some (escaped name)) none
+  unfolding behind begins ifThere nameText stateText
+  name-in true y name = rw (name-ends name (ifThere y (stateText n) ++ closing))
   name-in false true name = rw digit
   name-in false false name = refl
 
@@ -76,9 +76,25 @@ state-few state pending = go (eqb state 1) (eqb state 2) pending
 
 -- "what 702 says of state and server name is what the table's record says": the name as it is stored, and the state's digit, each if it was asked for
 module _ (r : References) (state : ℕ) (pending : Bool) (name : List ℕ) where
-  pub tells-name : nameTold (shData r state pending name) ≡ cond (r .name && ltb 0 (length name)) (some name) none
+  pub shows-name : inside nameStart nameEnd (shData r state pending name) ≡ cond (r .name && ltb 0 (length name)) (some (escaped name)) none
   unfolding shText nameElement stateElement
-  tells-name = name-in (userState state pending) (state-few state pending) (r .name && ltb 0 (length name)) (r .state) name
+  shows-name = name-in (userState state pending) (state-few state pending) (r .name && ltb 0 (length name)) (r .state) name
+
+  pub tells-name : nameTold (shData r state pending name) ≡ cond (r .name && ltb 0 (length name)) (some name) none
+  unfolding nameTold
+  tells-name = ap unescapedIf shows-name ∙ go (r .name && ltb 0 (length name))
+    where
+      go : (x : Bool) → unescapedIf (cond x (some (escaped name)) none) ≡ cond x (some name) none
+      go true = rw (unescaped-escaped name)
+      go false = refl
+
+  -- no markup character stands bare in it
+  pub shows-clean : (n : List ℕ) → inside nameStart nameEnd (shData r state pending name) ≡ some n → noneBare n ≡ true
+  shows-clean n e = go (r .name && ltb 0 (length name)) (sym shows-name ∙ e)
+    where
+      go : (x : Bool) → cond x (some (escaped name)) none ≡ some n → noneBare n ≡ true
+      go true f = let q : escaped name ≡ n = cc in rw (← q) (none-bare name)
+      go false f = absurd (Option·none-ne-some n f)
 
   pub tells-state : stateTold (shData r state pending name) ≡ cond (r .state) (some ((0x30 + userState state pending) ∷ [])) none
   unfolding shText nameElement stateElement

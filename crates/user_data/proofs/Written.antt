@@ -1,5 +1,5 @@
 -- 702 is written by the writers of its parts, one after the other.
-use Rattle.octets.specs.Standard.{ℕ, _+_, _-_, _≤_, Bool, true, false, _&&_, _≡_, refl, sym, _∙_, List, [], _∷_, _++_, append-assoc, arith, ltb, length, replicate}
+use Rattle.octets.specs.Standard.{ℕ, _+_, _-_, _≤_, Bool, true, false, _&&_, _≡_, refl, List, [], _∷_, _++_, append-assoc, arith, ltb, length, replicate}
 use Rattle.octets.specs.Standard.{length-replicate, ne-eqb}
 use Rattle.octets.specs.Number.{inFours}
 use Rattle.octets.specs.Run.{over, Wrote}

@@ -17,17 +17,30 @@ pub struct References {
     pub other: bool,
 }
 
-// The state that is told of a record.
+// The values of IMSUserState.
+const NOT_REGISTERED: u8 = 0;
+
+const REGISTERED: u8 = 1;
+
+const REGISTERED_UNREG_SERVICES: u8 = 2;
+
+const AUTHENTICATION_PENDING: u8 = 3;
+
+// The state that is told of a record: registered (1) or unregistered (2), pending or not; else by whether it is pending.
 fn user_state(state: u8, pending: bool) -> u8
     ensures { λ r. ⌜ (r ≡ userState state pending) × (r ≤ 3) ⌝ }
 {
     if state == 1 {
-        return 1;
+        return REGISTERED;
     }
     if state == 2 {
-        return 2;
+        return REGISTERED_UNREG_SERVICES;
     }
-    if pending { 3 } else { 0 }
+    if pending {
+        AUTHENTICATION_PENDING
+    } else {
+        NOT_REGISTERED
+    }
 }
 
 // The element of a server name.
@@ -107,7 +120,7 @@ fn put_padded(out: &mut [u8], asked: References, n: u8, name: &[u8]) -> usize
 }
 
 // The AVP: the data first, since their length stands in the header.
-fn put_told(out: &mut [u8], asked: References, n: u8, name: &[u8]) -> usize
+fn put_avp(out: &mut [u8], asked: References, n: u8, name: &[u8]) -> usize
     requires { ⌜ (n ≤ 3) × (vendorSize (length (shText asked n (now name))) ≤ length (now out)) ⌝ }
     ensures { λ r. ⌜ (r ≡ vendorSize (length (shText asked n (now (name .entry)))))
         × Wrote (vendorBytes 702 (shText asked n (now (name .entry)))) (now (out .entry)) (now (out .exit)) r ⌝ }
@@ -129,5 +142,5 @@ pub fn put_user_data(
     ensures { λ r. ⌜ (r ≤ length (now (out .entry)))
         × Wrote (userDataBytes asked state pending (now (name .entry))) (now (out .entry)) (now (out .exit)) r ⌝ }
 {
-    put_told(out, asked, user_state(state, pending), name)
+    put_avp(out, asked, user_state(state, pending), name)
 }

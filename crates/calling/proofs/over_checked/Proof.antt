@@ -1,4 +1,4 @@
-use Rattle.calling.proofs.Calls.{checked-sound, dialect-own, wanted-own, over-good, over-bad}
+use Rattle.calling.proofs.Calls.{checked-sound, dialect-own, over-good, over-bad}
 use Rattle.octets.specs.Standard.{needs}
 use Rattle.calling.proofs.over_checked.Statement.{statement}
 use Rattle.calling.proofs.over_checked.Tie as tie
@@ -9,9 +9,8 @@ over-checked-spec =
     (tie.spec
     (λ c κs. search needs)
     (λ c. search needs)
-    (λ c κs. search needs)
     (λ c. search needs)
-    (λ c κs. search (needs, checked-sound, dialect-own, wanted-own))
+    (λ c κs. search (needs, checked-sound, dialect-own))
     (λ c. search needs)
     (λ c. search needs)
     (λ c. search needs)

@@ -12,6 +12,7 @@ answer-sound-spec =
     (λ c. search needs)
     (λ c κs. search (needs, judged-fine))
     (λ c. search needs)
+    (λ c κs. search needs)
     (λ c κs. search (needs, fault-decided, fault-near))
     (λ c. search needs)
     (λ c. search needs)

@@ -1,4 +1,4 @@
-use Rattle.requests.proofs.Scheme.{member-placed}
+use Rattle.requests.proofs.Sole.{member-placed}
 use Rattle.octets.specs.Standard.{needs}
 use Rattle.requests.proofs.places.member_of.Statement.{statement}
 use Rattle.requests.proofs.places.member_of.Tie as tie

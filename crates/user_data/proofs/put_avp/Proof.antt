@@ -1,10 +1,10 @@
 use Rattle.user_data.proofs.Written.{wrote-told}
 use Rattle.octets.specs.Standard.{needs}
-use Rattle.user_data.proofs.put_told.Statement.{statement}
-use Rattle.user_data.proofs.put_told.Tie as tie
+use Rattle.user_data.proofs.put_avp.Statement.{statement}
+use Rattle.user_data.proofs.put_avp.Tie as tie
 
-pub put-told-spec : {M : Type 1} → statement M
-put-told-spec =
+pub put-avp-spec : {M : Type 1} → statement M
+put-avp-spec =
     tie.close
     (tie.spec
     (λ c. search needs)
