@@ -4,3 +4,4 @@ pub mod Exactly
 pub mod FirstLine
 pub mod Fresh
 pub mod Lines
+pub mod Refusing

@@ -1,6 +1,6 @@
 -- Lists that differ from an export in one thing, and what import says of each, computed by the definitions: line 3 for a number with a leading zero, for the
--- last CR LF missing, for a quote that is not doubled and for a second record like the first; line 4 for a line too many; line 2 where both records are
--- wrong, and where no name is left above the first one's.
+-- last CR LF missing and for a quote that is not doubled; line 4 for a line too many; line 2 where both records are wrong, and where no name is left above
+-- the first one's.
 use Rattle.octets.specs.Standard.{ℕ, _+_, true, _≡_, refl, ap, arith, List, _∷_, _++_, take, drop, replicate}
 use Rattle.octets.proofs.Numbers.{allBytes, are-bytes}
 use Rattle.record.specs.Fields.{editionOf}
@@ -15,6 +15,7 @@ use Rattle.importing.proofs.Given.{Exportable}
 use Rattle.list_example.proofs.Sample.{header, table, line1, line2, list, opened}
 use Rattle.list_example.proofs.Worked.{sound, listed}
 use Rattle.list_laws.proofs.Exactly.{AnExport, Accepts, accepts-exactly}
+use Rattle.list_laws.proofs.FirstLine.{NamedLine, first-line}
 
 -- `,03,4,7` for `,3,4,7`
 unfoldable pub leading : List ℕ
@@ -125,3 +126,10 @@ unclosed-not = not-accepted unclosed 2 unclosed-wrong
 
 pub longer-not : Accepts longer (header 2 2) 7 → ⊥
 longer-not = not-accepted longer 3 longer-wrong
+
+-- The line that is named is the first that no export could hold there: line 3 of the list with a leading zero, line 2 where no name is left above.
+pub leading-line : NamedLine leading (header 2 2) 7 2
+leading-line = first-line leading (header 2 2) 7 (are-bytes (header 2 2) header-bytes) fit 2 leading-wrong
+
+pub highest-line : NamedLine highest (header 2 2) 7 1
+highest-line = first-line highest (header 2 2) 7 (are-bytes (header 2 2) header-bytes) fit 1 highest-wrong
