@@ -1,6 +1,7 @@
 -- Wrong exports and imports. Each is a function here that is right but for one error, and at an input that is computed its outcome does not meet the promise.
 use Rattle.octets.specs.Standard.{ℕ, zero, suc, _+_, _*_, Bool, _&&_, cond, _≡_, refl, sym, ap, _∙_, arith, List, [], _∷_, _++_, length, take}
-use Rattle.octets.specs.Standard.{_-_, drop, eqb, leb, eq-eqb, getD}
+use Rattle.octets.specs.Standard.{_-_, drop, eqb, leb, eq-eqb, getD, _≤_, _≢_}
+use Rattle.octets.specs.Run.{over}
 use Rattle.record.specs.Fields.{countOf, editionOf}
 use Rattle.record.specs.HeaderBlock.{headerOf}
 use Rattle.blocks.specs.Blocks.{blockOf, firstBad}
@@ -58,6 +59,14 @@ table-size : length table ≡ 1536
 unfolding opened
 table-size = refl
 
+area-size : length (7 ∷ drop 1 table) ≡ 1536
+unfolding opened
+area-size = refl
+
+first-byte : getD (over table (7 ∷ drop 1 table)) 0 0 ≡ 1
+unfolding opened
+first-byte = refl
+
 -- a server that takes the list for the export
 taken-word : listWord (imported list (header 2 2) 7 table .said) ≡ 1536
 unfolding writing
@@ -65,6 +74,41 @@ taken-word =
     ap (λ (l : List ℕ). listWord (imported l (header 2 2) 7 table .said)) (sym listed)
     ∙ ap (λ (o : AfterList). listWord (o .said)) (import-gives (header 2 2) 7 table exportable table)
     ∙ rw table-size
+
+-- what the promise leaves where the list is an export's
+true-word : (f : Importer) → Imports f list (header 2 2) profile table → f list (header 2 2) profile table .word ≡ 1536
+true-word f m = m .word-is ∙ taken-word
+
+-- Everything is refused, whatever is said.
+refusing-fails : (f : Importer) (number value : ℕ) → 1 ≤ number → f list (header 2 2) profile table .word ≡ number * 281474976710656 + value
+    → Imports f list (header 2 2) profile table → ⊥
+refusing-fails f number value h e m = omega (arith, true-word f m)
+
+-- The answer is fixed: it fails at one of two lists.
+fixed-fails : (f : Importer) → f list (header 2 2) profile table .word ≡ f leading (header 2 2) profile table .word
+    → Imports f list (header 2 2) profile table → Imports f leading (header 2 2) profile table → ⊥
+fixed-fails f e m n = omega (arith, true-word f m, word-given f leading profile table 2 leading-wrong n)
+
+-- The number of bytes is invented.
+inventing-fails : (f : Importer) (bytes : ℕ) → bytes ≢ 1536 → f list (header 2 2) profile table .word ≡ bytes → Imports f list (header 2 2) profile table → ⊥
+inventing-fails f bytes n e m = n (sym e ∙ true-word f m)
+
+-- Nothing is written though it is said: an area whose first byte is another has it still.
+idle-fails : (f : Importer) → f list (header 2 2) profile (7 ∷ drop 1 table) .area ≡ 7 ∷ drop 1 table
+    → Imports f list (header 2 2) profile (7 ∷ drop 1 table) → ⊥
+unfolding writing over
+idle-fails f e m =
+    let a : f list (header 2 2) profile (7 ∷ drop 1 table) .area ≡ writing (7 ∷ drop 1 table) table .area =
+    m .table-is
+    ∙ ap (λ (l : List ℕ). imported l (header 2 2) 7 (7 ∷ drop 1 table) .area) (sym listed)
+    ∙ ap (λ (o : AfterList). o .area) (import-gives (header 2 2) 7 table exportable (7 ∷ drop 1 table)) in
+    let w : writing (7 ∷ drop 1 table) table .area ≡ over table (7 ∷ drop 1 table) = rw (table-size, area-size) in
+    let z : _≡_ {A = ℕ} 7 1 = ap (λ (l : List ℕ). getD l 0 0) (sym e ∙ a ∙ w) ∙ first-byte in
+    omega arith
+
+-- Something is written under a refusal.
+writing-fails : (f : Importer) (area : List ℕ) → f leading (header 2 2) profile area .area ≢ area → Imports f leading (header 2 2) profile area → ⊥
+writing-fails f area n m = n (m .table-is ∙ ap (λ (o : AfterList). o .area) (refused leading 7 2 area leading-wrong))
 
 -- A leading zero is passed over: a 0 between a comma and a digit.
 abbrev isDigit : ℕ → Bool
@@ -81,9 +125,9 @@ zeroes-strips : stripped leading ≡ list
 unfolding stripped leading opened
 zeroes-strips = refl
 
-zeroes-breaks : Imports zeroes leading (header 2 2) profile table → ⊥
+zeroes-fails : Imports zeroes leading (header 2 2) profile table → ⊥
 unfolding zeroes
-zeroes-breaks m =
+zeroes-fails m =
     let w : listWord (imported (stripped leading) (header 2 2) 7 table .said) ≡ 14 * 281474976710656 + (2 + 1) =
     word-given zeroes leading profile table 2 leading-wrong m in
     omega (arith, ap (λ (l : List ℕ). listWord (imported l (header 2 2) 7 table .said)) zeroes-strips, taken-word)
@@ -99,9 +143,9 @@ closing-closes : closed unclosed ≡ list
 unfolding closed unclosed opened
 closing-closes = refl
 
-closing-breaks : Imports closing unclosed (header 2 2) profile table → ⊥
+closing-fails : Imports closing unclosed (header 2 2) profile table → ⊥
 unfolding closing
-closing-breaks m =
+closing-fails m =
     let w : listWord (imported (closed unclosed) (header 2 2) 7 table .said) ≡ 14 * 281474976710656 + (2 + 1) =
     word-given closing unclosed profile table 2 unclosed-wrong m in
     omega (arith, ap (λ (l : List ℕ). listWord (imported l (header 2 2) 7 table .said)) closing-closes, taken-word)
@@ -114,9 +158,9 @@ cutting-cuts : take (placeOf longer (countOf (header 2 2))) longer ≡ list
 unfolding longer opened
 cutting-cuts = refl
 
-cutting-breaks : Imports cutting longer (header 2 2) profile table → ⊥
+cutting-fails : Imports cutting longer (header 2 2) profile table → ⊥
 unfolding cutting
-cutting-breaks m =
+cutting-fails m =
     let w : listWord (imported (take (placeOf longer (countOf (header 2 2))) longer) (header 2 2) 7 table .said) ≡ 14 * 281474976710656 + (3 + 1) =
     word-given cutting longer profile table 3 longer-wrong m in
     omega (arith, ap (λ (l : List ℕ). listWord (imported l (header 2 2) 7 table .said)) cutting-cuts, taken-word)
@@ -136,9 +180,9 @@ latest-names : lastWrong swapped (header 2 2) 6 ≡ Bad 2
 unfolding lastWrong lastBad swapped opened
 latest-names = refl
 
-latest-breaks : Imports latest swapped (header 2 2) (0 ∷ 0 ∷ 0 ∷ 0 ∷ 0 ∷ 0 ∷ []) table → ⊥
+latest-fails : Imports latest swapped (header 2 2) (0 ∷ 0 ∷ 0 ∷ 0 ∷ 0 ∷ 0 ∷ []) table → ⊥
 unfolding latest
-latest-breaks m =
+latest-fails m =
     let w : listWord (cond (fitHeader (header 2 2)) (importPast swapped (header 2 2) table (lastWrong swapped (header 2 2) 6)) (refusing table 5 0) .said)
     ≡ 14 * 281474976710656 + (1 + 1) =
     word-given latest swapped (0 ∷ 0 ∷ 0 ∷ 0 ∷ 0 ∷ 0 ∷ []) table 1 swapped-wrong m in
@@ -157,9 +201,9 @@ sighted-names : shortWrong highest (header 2 2) 7 ≡ Bad 2
 unfolding shortWrong highest opened
 sighted-names = refl
 
-sighted-breaks : Imports sighted highest (header 2 2) profile table → ⊥
+sighted-fails : Imports sighted highest (header 2 2) profile table → ⊥
 unfolding sighted
-sighted-breaks m =
+sighted-fails m =
     let w : listWord (cond (fitHeader (header 2 2)) (importPast highest (header 2 2) table (shortWrong highest (header 2 2) 7)) (refusing table 5 0) .said)
     ≡ 14 * 281474976710656 + (1 + 1) =
     word-given sighted highest profile table 1 highest-wrong m in
@@ -222,9 +266,9 @@ single-said : listWord (writing list (singleList table) .said) ≡ 260
 unfolding writing
 single-said = rw (list-size, single-size)
 
-singly-breaks : Exports singly table profile list → ⊥
+singly-fails : Exports singly table profile list → ⊥
 unfolding singly instead
-singly-breaks m =
+singly-fails m =
     let w : listWord (instead (exported table 7 list .said) (writing list (singleList table)) (exported table 7 list) .said)
     ≡ listWord (exported table 7 list .said) = m .word-is in
     let v : listWord (writing list (singleList table) .said) ≡ 261 = rw said-so at w in
