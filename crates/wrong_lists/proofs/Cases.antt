@@ -81,11 +81,11 @@ pub first-block : blockOf table 0 ≡ header 2 2
 unfolding opened
 first-block = refl
 
-table-bytes : allBytes table ≡ true
+pub table-bytes : allBytes table ≡ true
 unfolding allBytes opened
 table-bytes = refl
 
-header-bytes : allBytes (header 2 2) ≡ true
+pub header-bytes : allBytes (header 2 2) ≡ true
 unfolding allBytes opened
 header-bytes = refl
 
