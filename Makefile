@@ -42,7 +42,7 @@ SH_HEADER := include/ndushavire_sh.h
 BINARY := reference/target/release/reference
 PROVED := crates.txt $(shell find crates -name '*.rt' -o -name '*.antt' -o -type d)
 # Over the archive, which is x86-64 code, and nothing of theirs is static: these are installed on x86-64 alone. The other two are plain C.
-OVER_ARCHIVE := target/bin/answer target/bin/tablecheck target/c99/check target/c99/move target/c99/report target/c99/take
+OVER_ARCHIVE := target/bin/answer target/bin/tablecheck target/c99/check target/c99/list target/c99/move target/c99/report target/c99/take
 PROGRAMS := target/c/maketable target/c/showtable $(if $(filter x86_64,$(MACHINE)),$(OVER_ARCHIVE))
 REFERENCE := $(shell find reference -path reference/target -prune -o -name '*.rs' -print -o -name 'Cargo.*' -print)
 
@@ -116,8 +116,8 @@ promises: $(ARCHIVES)
 	tests/plain.py
 	RUN='$(RUN)' tests/symbols.sh target/test/symbols $(ARCHIVE) $(SH_ARCHIVE) $(X86_CC)
 
-#: examples           the C examples: worked answers, refusals, AVPs at fault, requests that real software sent, a voicemail box, the month's numbers, moves, take-overs
-examples: $(foreach mode,c99 cxx,$(addprefix target/$(mode)/,check decide userdata move report take)) target/c99/cut-take target/c/fault target/c++/fault target/c/maketable target/c/showtable $(BINARY)
+#: examples           the C examples: worked answers, refusals, AVPs at fault, requests that real software sent, a voicemail box, the month's numbers, moves, take-overs, lists
+examples: $(foreach mode,c99 cxx,$(addprefix target/$(mode)/,check decide userdata list move report take)) target/c99/cut-take target/c/fault target/c++/fault target/c/maketable target/c/showtable $(BINARY)
 	for fault in target/c/fault target/c++/fault; do $$fault; done
 	RUN='$(RUN)' tests/decide.sh target/test/decide target/c/maketable target/c99/decide target/cxx/decide
 	RUN='$(RUN)' tests/captured.sh target/test/captured target/c/maketable $(BINARY) target/c99/decide target/cxx/decide
@@ -125,6 +125,7 @@ examples: $(foreach mode,c99 cxx,$(addprefix target/$(mode)/,check decide userda
 	RUN='$(RUN)' tests/report.sh target/test/report target/c/maketable target/c99/report target/cxx/report
 	RUN='$(RUN)' tests/move.sh target/test/move target/c/maketable target/c/showtable target/c99/check target/c99/move target/cxx/move
 	RUN='$(RUN)' tests/take.sh target/test/take target/c/maketable target/c99/check target/c99/cut-take target/c99/take target/cxx/take
+	RUN='$(RUN)' tests/list.sh target/test/list target/c/maketable target/c99/check target/c99/list target/cxx/list
 
 #: tables             tables and vector files made from text, and damaged ones
 tables: target/c99/check target/cxx/check target/c/maketable target/c/showtable
@@ -412,11 +413,11 @@ target/c99/month: tests/month.c bench/requests.h examples/load.h $(HEADER) $(ARC
 # The two that answer Sh requests are linked with both archives.
 target/c99/daemon: $(addprefix examples/,base.h files.h log.h remember.h taking.h)
 $(foreach mode,c99 cxx,$(addprefix target/$(mode)/,daemon userdata)): $(SH_HEADER) $(SH_ARCHIVE)
-target/c99/%: examples/%.c examples/load.h examples/fault.h examples/hex.h examples/peers.h examples/stated.h examples/store.h examples/area.h $(HEADER) $(ARCHIVE)
+target/c99/%: examples/%.c examples/load.h examples/fault.h examples/hex.h examples/peers.h examples/stated.h examples/store.h examples/newfile.h examples/area.h $(HEADER) $(ARCHIVE)
 	mkdir -p $(@D)
 	$(X86_CC) -std=c99 $(STRICT) -o $@ $< $(filter %.a,$^)
 
-target/cxx/%: examples/%.c examples/load.h examples/fault.h examples/hex.h examples/peers.h examples/stated.h examples/store.h examples/area.h $(HEADER) $(ARCHIVE)
+target/cxx/%: examples/%.c examples/load.h examples/fault.h examples/hex.h examples/peers.h examples/stated.h examples/store.h examples/newfile.h examples/area.h $(HEADER) $(ARCHIVE)
 	mkdir -p $(@D)
 	$(X86_CXX) $(STRICT) -o $@ -x c++ $< -x none $(filter %.a,$^)
 
