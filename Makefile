@@ -203,7 +203,7 @@ ifndef SEED
 SEED := $(shell od -An -N4 -tu4 /dev/urandom | tr -d ' ')
 endif
 DRIVER = $(RUN) target/c99/driver
-KINDS := tables vectors calls plain voicemail reports moves takes demand3 demand3-voicemail neighbours neighbours-voicemail runs
+KINDS := tables vectors calls plain voicemail reports moves takes lists demand3 demand3-voicemail neighbours neighbours-voicemail runs
 COUNT_tables := 200000
 COUNT_vectors := 100000
 COUNT_calls := 100000
@@ -212,6 +212,7 @@ COUNT_voicemail := 100000
 COUNT_reports := 20000
 COUNT_moves := 50000
 COUNT_takes := 50000
+COUNT_lists := 50000
 COUNT_demand3 := 20000
 COUNT_demand3-voicemail := 20000
 COUNT_neighbours := 100000
@@ -226,7 +227,7 @@ cited: $(ARCHIVES) $(PROGRAMS)
 recipes: $(ARCHIVES) $(PROGRAMS) $(OVER_ARCHIVE) target/c99/decide target/c99/userdata
 	RUN='$(RUN)' tests/recipes.sh target/test/recipes '$(PROGRAM)' $(X86_CC)
 
-#: differential       the libraries beside the independent program on 830,000 new cases, of which 20,000 go to both engines, and 2,000 runs of calls; SEED=N runs a seed again
+#: differential       the libraries beside the independent program on 880,000 new cases, of which 20,000 go to both engines, and 2,000 runs of calls; SEED=N runs a seed again
 differential: target/c99/driver $(BINARY)
 	@for of in $(foreach kind,$(KINDS),$(kind):$(COUNT_$(kind))); do \
 	    echo "differential run: seed $(SEED), $${of#*:} $${of%:*}"; \
@@ -240,7 +241,7 @@ plain: target/c99/driver $(BINARY)
 	$(BINARY) compare --kind plain --seed $(SEED) --count $(COUNT_engines) -- $(DRIVER)
 
 COUNT_narrow := 10000
-#: narrow             requests that real software sent, 10,000 calls, and 1,000 calls of both engines, of Sh, reports, checks, moves and take-overs on a thread whose stack is 16 KiB; half a minute
+#: narrow             requests that real software sent, 10,000 calls, and 1,000 calls of both engines, of Sh, reports, checks, moves, take-overs and lists on a thread whose stack is 16 KiB; half a minute
 narrow: target/narrow/decide target/narrow/driver target/c/maketable $(BINARY)
 	RUN='$(RUN)' tests/captured.sh target/test/narrow target/c/maketable $(BINARY) target/narrow/decide
 	tests/narrow.sh $(BINARY) $(SEED) $(COUNT_narrow) $(RUN) target/narrow/driver
@@ -296,6 +297,7 @@ stats: $(BINARY)
 	$(BINARY) stats --kind reports --seed $(SEED) --count $(COUNT_reports)
 	$(BINARY) stats --kind moves --seed $(SEED) --count $(COUNT_moves)
 	$(BINARY) stats --kind takes --seed $(SEED) --count $(COUNT_takes)
+	$(BINARY) stats --kind lists --seed $(SEED) --count $(COUNT_lists)
 	$(BINARY) stats --kind neighbours --seed $(SEED) --count $(COUNT_neighbours)
 	$(BINARY) stats --kind neighbours-voicemail --seed $(SEED) --count $(COUNT_neighbours-voicemail)
 
@@ -369,7 +371,8 @@ target/c99/driver: tests/driver.c $(HEADER) $(SH_HEADER) $(ARCHIVES)
 
 target/c99/overstep: tests/overstep.c tests/driver.c $(HEADER) $(SH_HEADER) $(ARCHIVES)
 	mkdir -p $(@D)
-	$(X86_CC) -std=c99 $(STRICT) -Wl,--wrap=ndushavire_check,--wrap=ndushavire_check_vectors,--wrap=ndushavire_plain,--wrap=ndushavire_sh_decide -o $@ \
+	$(X86_CC) -std=c99 $(STRICT) -Wl,--wrap=ndushavire_check,--wrap=ndushavire_check_vectors,--wrap=ndushavire_plain,--wrap=ndushavire_sh_decide \
+	    -Wl,--wrap=ndushavire_export,--wrap=ndushavire_import -o $@ \
 	    tests/overstep.c tests/driver.c $(ARCHIVES)
 
 target/narrow/driver: tests/driver.c
@@ -378,7 +381,7 @@ target/narrow/decide: examples/decide.c examples/load.h examples/fault.h example
 target/narrow/driver target/narrow/decide: tests/narrow.c $(HEADER) $(SH_HEADER) $(ARCHIVES)
 	mkdir -p $(@D)
 	$(X86_CC) -std=c99 $(STRICT) -pthread -Wl,-z,now \
-	    $(foreach entry,check check_vectors decide plain report forward back take sh_decide,-Wl,--wrap=ndushavire_$(entry)) -o $@ $(filter %.c,$^) $(ARCHIVES)
+	    $(foreach entry,check check_vectors decide plain report forward back take export import sh_decide,-Wl,--wrap=ndushavire_$(entry)) -o $@ $(filter %.c,$^) $(ARCHIVES)
 
 target/c99/version: tests/version.c $(HEADER) $(ARCHIVE)
 	mkdir -p $(@D)
