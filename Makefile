@@ -14,7 +14,7 @@ endif
 export PYTHONDONTWRITEBYTECODE := 1
 .PHONY: help run test quick clean fmt kit pages header examples tables texts aims stores programs reference installs cited narrow bench stack installable install uninstall
 .PHONY: unsound reports moves takes cuts recipes daemon peers differential plain noticed soak mutants stats definitions-check cases
-.PHONY: voicemail documents parsed promises
+.PHONY: voicemail documents parsed promises spreadsheet
 
 MACHINE := $(shell uname -m)
 ifeq ($(MACHINE),x86_64)
@@ -263,6 +263,10 @@ cuts: target/c99/takes target/c99/cuts target/c99/take target/c99/cut-take
 #: parsed             100,000 answers of the Sh entry, whose documents an XML parser reads as they were meant, half a minute
 parsed: target/c99/driver
 	$(DOCUMENTS) 100000 $(DRIVER)
+
+#: spreadsheet        what Python's csv and LibreOffice, which it installs from Debian as root, make of a list, beside docs/LIST.md; a minute
+spreadsheet: target/c99/list target/c/maketable
+	tests/spreadsheet.sh target/test/spreadsheet target/c/maketable $(RUN) target/c99/list
 
 # 5,000,000 tables, and as many vector files, calls and calls of Sh. Each round has the next seed: with SEED=N ROUNDS=M a run that was stopped goes on.
 ROUNDS := 50
