@@ -1,6 +1,6 @@
 #!/usr/bin/env bash
-# list.sh ROOM MAKETABLE CHECK LIST..: each LIST writes tables as lists and makes them again, into new files alone. Each list has the lines that awk says of
-# the text; there and back is the first file, and back and there the first list. Whatever is refused leaves no file, and names the block or the line.
+# list.sh ROOM MAKETABLE CHECK LIST..: each LIST writes tables as lists and makes them again, into new files alone. Each list is what
+# cells.py says of the table's bytes; there and back is the first file, and back and there the first list. Whatever is refused leaves no file, and names the block or the line.
 # RUN, if set, is the emulator.
 set -euo pipefail
 room=$1 maketable=$(realpath "$2") check=$(realpath "$3")
@@ -32,27 +32,7 @@ of_issue 7 "$room/second"
 blocks=$(($(stat -c %s "$room/second") / 512))
 records=$((blocks - 1))
 
-# The list of a table, by its bytes alone: nothing of the library or of the program is in it. A quote is byte 34.
-number() { od -An -v -tu"$3" --endian=big -j "$2" -N "$3" "$1" | tr -d ' '; } # FILE PLACE BYTES
-name() { printf '"%s"' "$(tail -c +$(($2 + 1)) "$1" | head -c "$3" | sed 's/"/""/g')"; } # FILE PLACE LENGTH
-list_of() { # TABLE
-    local block at bits k
-    printf '%s\r\n' "$columns"
-    for ((block = 1; block < $(stat -c %s "$1") / 512; block++)); do
-        at=$((512 * block)) bits=$(get_byte "$1" $((512 * block + 9)))
-        name "$1" $((at + 16)) "$(get_byte "$1" $((at + 13)))"
-        printf ','
-        name "$1" $((at + 144)) "$(get_byte "$1" $((at + 14)))"
-        printf ','
-        name "$1" $((at + 272)) "$(get_byte "$1" $((at + 15)))"
-        printf ',%d' "$(get_byte "$1" $((at + 8)))" $((bits & 1)) $((bits >> 1 & 1)) $((bits >> 2 & 1)) "$(get_byte "$1" $((at + 10)))"
-        printf ',%d' "$(get_byte "$1" $((at + 11)))"
-        for k in 0 1 2 3; do printf ',%d' "$(number "$1" $((at + 368 + 4 * k)) 4)"; done
-        printf ',%d' "$(get_byte "$1" $((at + 12)))"
-        for k in 0 1 2 3; do printf ',%d' "$(number "$1" $((at + 384 + 4 * k)) 4)"; done
-        printf ',%d,%d,%d\r\n' "$(number "$1" $((at + 400)) 4)" "$(number "$1" $((at + 404)) 2)" "$(number "$1" $((at + 406)) 2)"
-    done
-}
+list_of() { "$top/tests/cells.py" list "$1"; } # TABLE
 
 # The program with these words ends with STATUS and says SAID on standard output, and nothing on standard error; what it reads stays as it is.
 said() { # STATUS SAID ABOUT WORD..

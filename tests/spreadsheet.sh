@@ -19,7 +19,7 @@ fail() {
     echo "spreadsheet.sh: $*" >&2
     exit 1
 }
-"$tests/spreadsheet.py" text >text
+"$tests/cells.py" text >text
 "$maketable" table text >table
 "$maketable" profile text >profile
 "${list[@]}" export table profile list.csv
@@ -38,7 +38,7 @@ refused() { # FILE ABOUT [LINE]
 # The list in its form is the one that was exported, and gives the table back.
 comes_back() { # FILE ABOUT
     formed "$1" || fail "$2: it is not put into its form"
-    "$tests/spreadsheet.py" altered list.csv formed.csv || fail "$2: cells are altered"
+    "$tests/cells.py" altered list.csv formed.csv || fail "$2: cells are altered"
     cmp list.csv formed.csv >&2 || fail "$2: its form is another"
     rm -f made
     "${list[@]}" import formed.csv table profile made >said && cmp table made >&2 || fail "$2: another table comes back"
@@ -47,10 +47,10 @@ comes_back() { # FILE ABOUT
 }
 
 # ---- Python's csv reads every cell as it is stored; what it writes is refused, and put into its form again
-"$tests/spreadsheet.py" cells list.csv table || fail "Python's csv reads other cells than the table has"
+"$tests/cells.py" cells list.csv table || fail "Python's csv reads other cells than the table has"
 comes_back list.csv 'the list as it was exported'
 for of in lf:1 mark:1 all:1 few:2 unix:1 zeros:2; do
-    "$tests/spreadsheet.py" spoil "${of%:*}" list.csv >"${of%:*}.csv"
+    "$tests/cells.py" spoil "${of%:*}" list.csv >"${of%:*}.csv"
     refused "${of%:*}.csv" "saved by Python, ${of%:*}" "${of#*:}"
     comes_back "${of%:*}.csv" "saved by Python, ${of%:*}"
 done
@@ -76,7 +76,7 @@ comes_back saved/list.csv 'saved by LibreOffice, with the settings of the page'
 saved_by_office 44,34,76,1,,1033,false,true 44,34,76,1,,1033,false,true
 refused saved/list.csv 'saved by LibreOffice, without them'
 formed saved/list.csv || fail 'saved by LibreOffice, without them: it is not put into its form'
-! "$tests/spreadsheet.py" altered list.csv formed.csv >altered || fail 'LibreOffice alters no name without the settings of the page, which says that it does'
+! "$tests/cells.py" altered list.csv formed.csv >altered || fail 'LibreOffice alters no name without the settings of the page, which says that it does'
 echo "spreadsheet.sh: LibreOffice without the settings alters $(wc -l <altered) cells:"
 sed 's/^/    /' altered
 tried=$((tried + 1))

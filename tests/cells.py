@@ -1,10 +1,12 @@
 #!/usr/bin/env python3
-"""spreadsheet.py text | cells LIST TABLE | spoil HOW LIST | altered LIST OTHER: the parts of spreadsheet.sh that are about cells.
+"""cells.py text | list TABLE | cells LIST TABLE | spoil HOW LIST | altered LIST OTHER: the parts of list.sh and spreadsheet.sh that are about cells.
 
-text: the text of a table whose names a spreadsheet may take for something else. cells: whether Python's csv reads of a list what the table's bytes hold.
-spoil: the list as another program would save it. altered: the cells in which two lists differ. Status 0 if all is so, 1 if not."""
+text: the text of a table whose names a spreadsheet may take for something else. list: the list of a table, by its bytes alone. cells: whether Python's csv
+reads of a list what the table's bytes hold. spoil: the list as another program would save it. altered: the cells in which two lists differ.
+Status 0 if all is so, 1 if not."""
 import csv, io, struct, sys
 
+COLUMNS = b'public,private,server,state,pending,barred,services,roaming,mandatory,m1,m2,m3,m4,optional,o1,o2,o3,o4,start,length,set'
 # Formulas, numbers in other forms, dates, words of a spreadsheet, what stands beside a comma, quotes.
 NAMES = ['=1+1', '=HYPERLINK("http://isle","x")', '+29051234', '-1', '@SUM(A1)', '00290', '0', '1E5', '1e400', '1.50', '1/2', '2026-11-17', '17.11.2026',
          '12:30', 'TRUE', 'false', '50%', '$5', '4294967296', '123456789012345678901234567890', "'x", ' x', 'x ', 'a,b', 'a;b', 'a"b', '"', '""', '"x"', '\\', 'a\\"b',
@@ -29,6 +31,15 @@ def cells_of(table):
         bits = [block[9] >> n & 1 for n in range(3)]
         numbers = [block[8], *bits, block[10], block[11], *mandatory, block[12], *optional, *struct.unpack('>IHH', block[400:408])]
         yield names + [str(number) for number in numbers]
+
+
+def listed(table):
+    """Nothing of the library or of its program is in it."""
+    sys.stdout.buffer.write(COLUMNS + b'\r\n')
+    for cells in cells_of(open(table, 'rb').read()):
+        line = ','.join(['"%s"' % name.replace('"', '""') for name in cells[:3]] + cells[3:])
+        sys.stdout.buffer.write(line.encode('ascii') + b'\r\n')
+    return True
 
 
 def rows_of(path):
@@ -73,7 +84,7 @@ def main():
     words = sys.argv[1:]
     if words == ['text']:
         return text()
-    done = {'cells': cells, 'spoil': spoil, 'altered': altered}[words[0]](*words[1:])
+    done = {'list': listed, 'cells': cells, 'spoil': spoil, 'altered': altered}[words[0]](*words[1:])
     sys.exit(0 if done else 1)
 
 
