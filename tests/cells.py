@@ -9,8 +9,8 @@ import csv, io, struct, sys
 COLUMNS = b'public,private,server,state,pending,barred,services,roaming,mandatory,m1,m2,m3,m4,optional,o1,o2,o3,o4,start,length,set'
 # Formulas, numbers in other forms, dates, words of a spreadsheet, what stands beside a comma, quotes.
 NAMES = ['=1+1', '=HYPERLINK("http://isle","x")', '+29051234', '-1', '@SUM(A1)', '00290', '0', '1E5', '1e400', '1.50', '1/2', '2026-11-17', '17.11.2026',
-         '12:30', 'TRUE', 'false', '50%', '$5', '4294967296', '123456789012345678901234567890', "'x", ' x', 'x ', 'a,b', 'a;b', 'a"b', '"', '""', '"x"', '\\', 'a\\"b',
-         '~', '#REF!', 'NULL', 'sip:alice@isle', 'tel:+29051234']
+         '12:30', 'TRUE', 'false', '50%', '$5', '4294967296', '123456789012345678901234567890', "'x", ' x', 'x ', 'a,b', 'a;b', 'a"b', '"', '""', '"x"',
+         '\\', 'a\\"b', '~', '#REF!', 'NULL', 'sip:alice@isle', 'tel:+29051234']
 
 
 def text():

@@ -1,6 +1,6 @@
 #!/usr/bin/env bash
 # list.sh ROOM MAKETABLE CHECK LIST..: each LIST writes tables as lists and makes them again, into new files alone. Each list is what
-# cells.py says of the table's bytes; there and back is the first file, and back and there the first list. Whatever is refused leaves no file, and names the block or the line.
+# cells.py says of the table's bytes, and there and back is the first file. Whatever is refused leaves no file, and names the block or the line.
 # RUN, if set, is the emulator.
 set -euo pipefail
 room=$1 maketable=$(realpath "$2") check=$(realpath "$3")
