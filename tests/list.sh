@@ -166,7 +166,8 @@ for line in $(seq 2 "$last"); do
     spoiled "$line" 's/","/", "/' "a space in line $line" "$other"
     spoiled "$line" 's/,/;/g' "semicolons in line $line" "$other"
     spoiled "$line" 's/^"\([^"]*\)"/\1/' "a name without quotes in line $line" "$other"
-    spoiled "$line" 's/^"/"\x27/' "an apostrophe before the name in line $line" "$other"
+    spoiled "$line" 's/^"[^"]*"/""/' "an empty public identity in line $line" "$other"
+    spoiled "$line" 's/^"\([^"]*\)"/"\1""/' "a quote that closes nothing in line $line" "$other"
     # The line is gone: the next one stands in its place, which is no fault of its form, and so the last one is missing.
     sed "${line}d" "$room/good" >"$csv"
     refused_list 14 "line $last is missing: the header block counts $records records" "line $line gone"
@@ -218,9 +219,8 @@ cp "$room/good" "$csv"
 : >"$table"
 refused_list 5 'the header block has 0 bytes' 'no header block'
 # Under a header block that counts others, and beside no profile.
-of_issue 7 "$table" '/^public=tel:/ { next }'
-fewer=$(($(stat -c %s "$table") / 512 - 1))
-[ "$fewer" -lt "$records" ] || fail 'the sample has no tel: line'
+of_issue 7 "$table" '/^public=/ && ++seen > 5 { exit }'
+fewer=5
 refused_list 14 "line $((fewer + 2)) is one too many: the header block counts $fewer records" 'a header block that counts fewer'
 cp "$room/second" "$table"
 cp "$profile" "$room/kept"
