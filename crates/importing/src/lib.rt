@@ -1,0 +1,2 @@
+// A list read back as a table: import.
+pub mod above;

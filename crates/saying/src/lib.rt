@@ -1,0 +1,80 @@
+// What the lines of a list say, as blocks: read in their order, read again, and written as a table.
+use blocks::BLOCK;
+use octets::number;
+use octets::run;
+use record::header::Header;
+ghost use mathlib.Core.Path.{_≡_};
+ghost use Prim.Native.Nat.{_+_, _*_, _≤_, _<_};
+ghost use lib.ListN.{length};
+ghost use Rattle.octets.specs.Run.{Wrote};
+ghost use Rattle.importing.specs.Said.{placeOf, saidAt, tableSaid};
+ghost use Rattle.record.specs.Fields.{countOf};
+ghost use Rattle.saying.specs.Noted.{noted, Noted};
+ghost use Rattle.saying.specs.Records.{recordsSaid};
+
+// Where the first record's line begins.
+pub const FIRST: usize = 121;
+
+// Of so many lines one has its place kept.
+const STEP: usize = 64;
+
+// The block of record n + 1, whose line begins at a place, and how long that line is. A line that is none says zeros, and is not passed over.
+pub fn read(out: &mut [u8], list: &[u8], at: usize, n: usize, header: &[u8]) -> usize
+    requires { ⌜ (length (now out) ≡ 512) × (length (now header) ≡ 512) × (n < 4096) × (at ≡ placeOf (now list) n) × (at ≤ length (now list)) ⌝ }
+    ensures { λ r. ⌜ (now (out .exit) ≡ saidAt (now (list .entry)) (now (header .entry)) (n + 1)) × (at + r ≡ placeOf (now (list .entry)) (n + 1))
+        × (at + r ≤ length (now (list .entry))) ⌝ }
+{
+    let issue = number::be32(header, Header::ISSUE_AT) as usize;
+    let size = parsing::block::read(out, &list[at..], n + 1, issue);
+    if size == 0 {
+        run::clear(out, BLOCK);
+    }
+    size
+}
+
+// Keeps the place of the line behind n records, if it is one of those that are kept.
+pub fn note(places: &mut [usize], n: usize, at: usize)
+    requires { ⌜ (length (now places) ≡ 65) × (n ≤ 4096) ⌝ }
+    ensures { λ _. ⌜ now (places .exit) ≡ noted (now (places .entry)) n at ⌝ }
+{
+    if n % STEP == 0 {
+        places[n / STEP] = at;
+    }
+}
+
+// The block of record k once more, from the last place kept before it.
+pub fn again(out: &mut [u8], list: &[u8], places: &[usize], k: usize, header: &[u8])
+    requires { ⌜ (length (now out) ≡ 512) × (length (now header) ≡ 512) × (1 ≤ k) × (k ≤ 4096) × (121 ≤ length (now list)) × Noted (now list) (now places) k ⌝ }
+    ensures { λ _. ⌜ now (out .exit) ≡ saidAt (now (list .entry)) (now (header .entry)) k ⌝ }
+{
+    let i = (k - 1) / STEP;
+    let mut at = places[i];
+    let mut n = STEP * i;
+    while n < k {
+        at += read(out, list, at, n, header);
+        n += 1;
+    }
+}
+
+// Writes the blocks of the first records.
+fn put_records(out: &mut [u8], list: &[u8], count: usize, header: &[u8])
+    requires { ⌜ (length (now header) ≡ 512) × (count ≤ 4096) × (512 * count ≤ length (now out)) × (121 ≤ length (now list)) ⌝ }
+    ensures { λ _. ⌜ Wrote (recordsSaid (now (list .entry)) (now (header .entry)) count) (now (out .entry)) (now (out .exit)) (512 * count) ⌝ }
+{
+    let mut b = [0u8; BLOCK];
+    let mut at = FIRST;
+    for n in 0..count {
+        at += read(&mut b, list, at, n, header);
+        run::copy(&mut out[BLOCK * n..], &b);
+    }
+}
+
+// Writes the table that a list says.
+pub fn put_table(out: &mut [u8], list: &[u8], count: usize, header: &[u8])
+    requires { ⌜ (length (now header) ≡ 512) × (count ≡ countOf (now header)) × (count ≤ 4096) × (512 * (count + 1) ≤ length (now out))
+        × (121 ≤ length (now list)) ⌝ }
+    ensures { λ _. ⌜ Wrote (tableSaid (now (list .entry)) (now (header .entry))) (now (out .entry)) (now (out .exit)) (512 * (count + 1)) ⌝ }
+{
+    run::copy(out, header);
+    put_records(&mut out[BLOCK..], list, count, header);
+}
