@@ -90,13 +90,14 @@ pub fn list(req: &[u8], places: &mut [u16]) -> usize
     n
 }
 
-// The place of a number in the list.
+// A place, as wide as the machine counts.
 fn wide(place: u16) -> usize
     ensures { λ r. ⌜ r ≡ place ⌝ }
 {
     place as usize
 }
 
+// The place of a number in the list.
 pub fn place_at(list: &[u16], i: usize) -> usize
     requires { ⌜ i < length (now list) ⌝ }
     ensures { λ r. ⌜ r ≡ getD (now (list .entry)) i 0 ⌝ }
