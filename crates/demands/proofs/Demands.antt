@@ -205,8 +205,8 @@ module _ (a : Lent) where
 pub demand-3 : (a : Lent) (longer : List ℕ) (l : Longer (a .terms) (a .request) longer) → Newer a longer l
 demand-3 = longer-newer
 
--- The kinds that are known are the same under every command, those of the header's faults too; every AVP of another kind is unknown, the Sh server's 700 and 703
--- among them.
+-- The kinds that are known are the same under every command, those of the header's faults too; every AVP of another kind is unknown, the Sh server's 700 and
+-- 703 among them.
 pub demand-3-kinds : (a : Lent) → a .terms .application ≡ cx → kindsOf (dialectIn a) ≡ kindsOfCx
 demand-3-kinds a = cx-kinds (dialectIn a)
 

@@ -177,14 +177,19 @@ module _ (head : List ℕ) (twenty : length head ≡ 20) (q : Piece) (qs rs : Li
       let f : turnedAway (asking x longer) ≡ false = turned head twenty q qs rs whole tail fours most x i ∙ away in
       fault-answered (asking x longer) 5001 markPlace (m .mark .avp)
       (mark-failed head twenty q qs rs whole tail fours most dialect (headerFault dialect head) m) (mark-read e) f
-      ∙ ap (blamingTable (asking x longer) 5001 (m .mark .avp)) (past-bytes 20 (q ∷ m .before) (before-whole head twenty q qs rs whole tail fours most dialect (headerFault dialect head) m))
+      ∙ ap (blamingTable (asking x longer) 5001 (m .mark .avp))
+      (past-bytes 20 (q ∷ m .before) (before-whole head twenty q qs rs whole tail fours most dialect (headerFault dialect head) m))
 
   long-decides : (t : List ℕ) (count : ℕ) (v : List ℕ) → decide (dialectOf (x .terms) longer) longer t count v
       ≡ judgedBy inForce dialect longer t count v
       (readFrom (headerFault dialect head) dialect headed (frontOther q (m .front)) (frontJudged dialect q (m .before)) (behind markPlace (m .mark ∷ m .after)))
   unfolding decideBy readBody
   long-decides t count v =
-      rw (message-dialect head twenty (bytesOf (q ∷ rs) ++ tail) (x .terms), message-read dialect head twenty (bytesOf (q ∷ rs) ++ tail), long-read head twenty q qs rs whole tail fours most dialect (headerFault dialect head) m)
+      rw (
+        message-dialect head twenty (bytesOf (q ∷ rs) ++ tail) (x .terms),
+        message-read dialect head twenty (bytesOf (q ∷ rs) ++ tail),
+        long-read head twenty q qs rs whole tail fours most dialect (headerFault dialect head) m,
+      )
 
   pub marked-kept : (serveTable (asking x longer) .table ≡ x .table) × (serveTable (asking x longer) .vectors ≡ x .vectors)
   unfolding answeredBy faultIn
@@ -202,6 +207,7 @@ module _ (head : List ℕ) (twenty : length head ≡ 20) (q : Piece) (qs rs : Li
       go false e true f =
           rw (answers e, long-decides (x .table) count (x .vectors))
           (fault-keeps (headerFault dialect head) dialect headed (frontOther q (m .front))
-          (behind markPlace (m .mark ∷ m .after)) (front-moved head twenty q qs rs whole tail fours most dialect (headerFault dialect head) m) f longer (x .table)
+          (behind markPlace (m .mark ∷ m .after)) (front-moved head twenty q qs rs whole tail fours most dialect (headerFault dialect head) m) f longer
+          (x .table)
           count (x .vectors))
       go false e false f = rw (answers e, mark-decides f (x .table) count (x .vectors)) (refl, refl)

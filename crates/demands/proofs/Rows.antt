@@ -1,4 +1,5 @@
--- What reading makes of a request into whose row AVPs of unknown kinds were put after its first AVP, whatever its dialect and its header's fault: at each server.
+-- What reading makes of a request into whose row AVPs of unknown kinds were put after its first AVP, whatever its dialect and its header's fault: at each
+-- server.
 use Rattle.octets.specs.Standard.{ℕ, _+_, _%_, _≤_, _<_, List, [], _∷_, _++_, append-assoc, some, Bool, true, false, not, cond, _||_, true≢false, _≡_}
 use Rattle.octets.specs.Standard.{refl, sym, ap, _∙_, arith, zero-add, length, drop, length-append, eqb, lt-ltb}
 use Rattle.pen.specs.Bytes.{ifThere}
