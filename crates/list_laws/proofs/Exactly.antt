@@ -18,7 +18,7 @@ use Rattle.importing.specs.Import.{fitHeader, importPast, imported}
 use Rattle.importing.proofs.Given.{Exportable}
 use Rattle.importing.proofs.Importing.{import-gives, accepts-only}
 
-never : {A : Type 0} (number value bytes : ℕ) → Refused number value ≡ Written bytes → A
+pub never : {A : Type 0} (number value bytes : ℕ) → Refused number value ≡ Written bytes → A
 never number value bytes e = let z : _≡_ {A = ℕ} 0 1 = cc in absurd (omega arith)
 
 -- what is written over an area of which it is said so

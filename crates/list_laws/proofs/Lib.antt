@@ -5,3 +5,4 @@ pub mod FirstLine
 pub mod Fresh
 pub mod Lines
 pub mod Refusing
+pub mod Words

@@ -85,7 +85,7 @@ module _ (t : List ℕ) (file : ℕ) (area : List ℕ) where
       checked (Sound count) s g = second count s (eqb (editionOf (blockOf t 0)) 2) refl g
 
 module _ (list header : List ℕ) (file : ℕ) (area : List ℕ) where
-  size-is : fitHeader header ≡ true → length (tableSaid list header) ≡ 512 * (countOf header + 1)
+  pub size-is : fitHeader header ≡ true → length (tableSaid list header) ≡ 512 * (countOf header + 1)
   size-is f = said-size list header (header-fits header f)
 
   pub import-refused : {number value : ℕ} → ImportRefuses list header file area number value → imported list header file area ≡ refusing area number value
