@@ -18,7 +18,7 @@ use Rattle.table.proofs.Leading.{two-passes}
 use Rattle.listing.specs.ListOf.{firstLine}
 use Rattle.listing.proofs.Lists.{first-length}
 use Rattle.importing.specs.Said.{tableSaid, enoughAt, holdsAt, isTitled, overRecords, firstWrong}
-use Rattle.saying.specs.Noted.{noted, Noted}
+use Rattle.saying.specs.Noted.{noted}
 use Rattle.saying.proofs.Reading.{place-first, noted-none, noted-more, said-whole}
 use Rattle.judging.specs.Fit.{Fit}
 use Rattle.judging.specs.Passes.{fitsAt, Turned, Standing, StoodSo, verdictOf}

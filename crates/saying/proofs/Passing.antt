@@ -1,5 +1,5 @@
 -- A line ends behind its first LF: no other byte of it is one.
-use Rattle.octets.specs.Standard.{ℕ, zero, suc, _+_, _/_, _%_, _<_, _≤_, Bool, true, false, cond, _≡_, refl, sym, _∙_, arith, add-one, eqb, eq-eqb, ne-eqb}
+use Rattle.octets.specs.Standard.{ℕ, zero, suc, _+_, _/_, _%_, _<_, _≤_, Bool, true, false, cond, _≡_, refl, _∙_, arith, add-one, eqb, eq-eqb, ne-eqb}
 use Rattle.octets.specs.Standard.{leb-true, leb, List, [], _∷_, _++_, append-assoc, length, length-append, drop, getD, drop-cons, drop-of-length-le}
 use Rattle.octets.specs.Standard.{Option, none, some}
 use Rattle.octets.proofs.All.{and-left, and-right}
