@@ -1,7 +1,6 @@
 -- How firm the promises of export and import are: they leave one outcome for each input, and out of the word the caller reads what came of it.
-use Rattle.octets.specs.Standard.{ℕ, zero, suc, _+_, _*_, _<_, _≤_, Bool, true, false, cond, _≡_, refl, sym, _∙_, _≢_, arith, eqb, ltb, eq-eqb, ne-eqb}
+use Rattle.octets.specs.Standard.{ℕ, zero, suc, _+_, _*_, _<_, _≤_, Bool, true, false, cond, _≡_, refl, sym, _∙_, _≢_, arith, eqb, eq-eqb, ne-eqb}
 use Rattle.octets.specs.Standard.{List, length, length-append}
-use Rattle.octets.specs.Run.{over}
 use Rattle.record.specs.Fields.{countOf, editionOf}
 use Rattle.blocks.specs.Blocks.{blockOf}
 use Rattle.blocks.specs.declared.Checked.{Checked}
@@ -11,7 +10,7 @@ use Rattle.table.specs.SoundTable.{SoundTable}
 use Rattle.table.proofs.Sound.{sound-few}
 use Rattle.rows.specs.Row.{rowOf, lineOf}
 use Rattle.listing.specs.ListOf.{firstLine, linesOf, listOf, firstUnlisted}
-use Rattle.listing.specs.Export.{came, refusing, writing, exportPast, exportSound, exportChecked, exported}
+use Rattle.listing.specs.Export.{refusing, exportPast, exportSound, exportChecked, exported}
 use Rattle.listing.specs.declared.Listed.{Listed}
 use Rattle.listing.specs.declared.Listed.the-variants.{Written, Refused}
 use Rattle.listing.proofs.Lists.{first-length, list-is, short-at}
@@ -25,8 +24,8 @@ use Rattle.ndushavire.specs.Promise.{ExportPromise, ImportPromise}
 use Rattle.ndushavire.proofs.Parts.{parts}
 use Rattle.demands.proofs.Firm.{check-most}
 use Rattle.list_laws.specs.Refusals.{ExportRefuses, unsound, older, unlisted, short, ImportRefuses, unfit, wrong, narrow}
-use Rattle.list_laws.proofs.Exactly.{never}
-use Rattle.list_laws.proofs.Refusing.{size-is, export-refuses, import-refuses}
+use Rattle.list_laws.proofs.Outcomes.{never, size-is, writing-wrote}
+use Rattle.list_laws.proofs.Refusing.{export-refuses, import-refuses}
 
 -- Any two outcomes that meet the promise are equal: the word, and the area.
 pub export-unique : (table profile list : List ℕ) (r s : ℕ) (x y : List ℕ) → ExportPromise table profile list r x → ExportPromise table profile list s y
@@ -59,23 +58,17 @@ lines-most : (t : List ℕ) (count : ℕ) → SoundTable t count → (k : ℕ) �
 unfolding linesOf
 lines-most t count s zero h = omega arith
 lines-most t count s (suc k) h =
-    omega
-    (arith, lines-most t count s k (omega arith), length-append (linesOf t k) (lineOf (rowOf (blockOf t (suc k)))),
-     short-at t count s (suc k) (omega arith) h {b = blockOf t (suc k)} refl)
+    omega (
+      arith,
+      lines-most t count s k (omega arith),
+      length-append (linesOf t k) (lineOf (rowOf (blockOf t (suc k)))),
+      short-at t count s (suc k) (omega arith) h {b = blockOf t (suc k)} refl,
+    )
 
 list-most : (t : List ℕ) (count : ℕ) → SoundTable t count → length (listOf t) ≤ 4194425
 list-most t count s =
     rw (list-is t count s)
     (omega (arith, first-length, length-append firstLine (linesOf t count), lines-most t count s count (omega arith), sound-few t count s))
-
--- What was written over an area is as long as is said of it.
-writing-wrote : (area w : List ℕ) (n : ℕ) → writing area w .said ≡ Written n → n ≡ length w
-unfolding writing
-writing-wrote area w n e = go (ltb (length area) (length w)) e
-  where
-    go : (x : Bool) → cond x (refusing area 15 0) (came (Written (length w)) (over w area)) .said ≡ Written n → n ≡ length w
-    go true g = never 15 0 n g
-    go false g = let s : Written (length w) ≡ Written n = g in cc
 
 module _ (t : List ℕ) (file : ℕ) (area : List ℕ) where
   export-wrote : (n : ℕ) → exported t file area .said ≡ Written n → n ≤ 4194425
@@ -120,7 +113,7 @@ module _ (list header : List ℕ) (file : ℕ) (area : List ℕ) where
       past f (Bad k) g = never 14 (k + 1) n g
       past f (Sound c) g =
           let few : countOf header ≤ 4096 = is-fit header refl f .few in
-          omega (arith, writing-wrote area (tableSaid list header) n g, size-is list header file area f, few)
+          omega (arith, writing-wrote area (tableSaid list header) n g, size-is list header f, few)
 
       fits : (x : Bool) → fitHeader header ≡ x → cond x (importPast list header area (firstWrong list header file)) (refusing area 5 0) .said ≡ Written n
           → n ≤ 2097664
