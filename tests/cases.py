@@ -137,8 +137,8 @@ def small(case):
 def fitting(reference):
     """Cases that fit, the smallest first."""
     found = []
-    few = [(kind, (1,), 4000) for kind in ('tables', 'vectors', 'reports', 'moves', 'takes', 'lists')]
-    for kind, seeds, count in (*few, ('voicemail', (1,), 10000), ('calls', range(1, 6), 20000)):
+    few = [(kind, (1,), 4000) for kind in ('tables', 'vectors', 'reports', 'moves', 'takes')]
+    for kind, seeds, count in (*few, ('lists', (1,), 6000), ('voicemail', (1,), 10000), ('calls', range(1, 6), 20000)):
         for seed in seeds:
             found += [case for case in streams.cases(made(reference, kind, seed, count)) if fits(case)]
     return sorted(found, key=lambda case: len(case.whole))
@@ -176,8 +176,8 @@ def telling(reference, found, told):
 
 
 def chosen(reference):
-    """The smallest case for each fault and for each result, then for each result over each edition, then with what the answer carries, and
-    more while there is room."""
+    """The smallest case for each fault and for each result, those of lists first, of which many have several records; then for each result over each edition,
+    then with what the answer carries, and more while there is room."""
     found = fitting(reference)
     told = outcomes_of(reference, found)
     results, editions, rows = (collections.defaultdict(list) for _ in range(3))
@@ -188,7 +188,8 @@ def chosen(reference):
             editions[result, edition(case)].append(case.whole)
             rows[result, carried, edition(case)].append(case.whole)
     taken, left = {}, MOST
-    for groups in telling(reference, found, told), results.values(), editions.values(), rows.values(), (group[1:] for group in rows.values()):
+    lists_first = [results[result] for result in sorted(results, key=lambda result: result[0] not in (8, 9))]
+    for groups in telling(reference, found, told), lists_first, editions.values(), rows.values(), (group[1:] for group in rows.values()):
         for group in groups:
             if group and len(group[0]) <= left and not any(case in taken for case in group):
                 taken[group[0]] = None
