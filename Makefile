@@ -14,7 +14,7 @@ endif
 export PYTHONDONTWRITEBYTECODE := 1
 .PHONY: help run test quick clean fmt kit pages header examples tables texts aims stores programs reference installs cited narrow bench stack installable install uninstall
 .PHONY: unsound reports moves takes cuts recipes daemon peers differential plain noticed soak mutants stats definitions-check cases
-.PHONY: voicemail documents parsed promises
+.PHONY: voicemail documents parsed promises spreadsheet
 
 MACHINE := $(shell uname -m)
 ifeq ($(MACHINE),x86_64)
@@ -42,7 +42,7 @@ SH_HEADER := include/ndushavire_sh.h
 BINARY := reference/target/release/reference
 PROVED := crates.txt $(shell find crates -name '*.rt' -o -name '*.antt' -o -type d)
 # Over the archive, which is x86-64 code, and nothing of theirs is static: these are installed on x86-64 alone. The other two are plain C.
-OVER_ARCHIVE := target/bin/answer target/bin/tablecheck target/c99/check target/c99/move target/c99/report target/c99/take
+OVER_ARCHIVE := target/bin/answer target/bin/tablecheck target/c99/check target/c99/list target/c99/move target/c99/report target/c99/take
 PROGRAMS := target/c/maketable target/c/showtable $(if $(filter x86_64,$(MACHINE)),$(OVER_ARCHIVE))
 REFERENCE := $(shell find reference -path reference/target -prune -o -name '*.rs' -print -o -name 'Cargo.*' -print)
 
@@ -116,8 +116,8 @@ promises: $(ARCHIVES)
 	tests/plain.py
 	RUN='$(RUN)' tests/symbols.sh target/test/symbols $(ARCHIVE) $(SH_ARCHIVE) $(X86_CC)
 
-#: examples           the C examples: worked answers, refusals, AVPs at fault, requests that real software sent, a voicemail box, the month's numbers, moves, take-overs
-examples: $(foreach mode,c99 cxx,$(addprefix target/$(mode)/,check decide userdata move report take)) target/c99/cut-take target/c/fault target/c++/fault target/c/maketable target/c/showtable $(BINARY)
+#: examples           the C examples: worked answers, refusals, AVPs at fault, requests that real software sent, a voicemail box, the month's numbers, moves, take-overs, lists
+examples: $(foreach mode,c99 cxx,$(addprefix target/$(mode)/,check decide userdata list move report take)) target/c99/cut-take target/c/fault target/c++/fault target/c/maketable target/c/showtable $(BINARY)
 	for fault in target/c/fault target/c++/fault; do $$fault; done
 	RUN='$(RUN)' tests/decide.sh target/test/decide target/c/maketable target/c99/decide target/cxx/decide
 	RUN='$(RUN)' tests/captured.sh target/test/captured target/c/maketable $(BINARY) target/c99/decide target/cxx/decide
@@ -125,6 +125,7 @@ examples: $(foreach mode,c99 cxx,$(addprefix target/$(mode)/,check decide userda
 	RUN='$(RUN)' tests/report.sh target/test/report target/c/maketable target/c99/report target/cxx/report
 	RUN='$(RUN)' tests/move.sh target/test/move target/c/maketable target/c/showtable target/c99/check target/c99/move target/cxx/move
 	RUN='$(RUN)' tests/take.sh target/test/take target/c/maketable target/c99/check target/c99/cut-take target/c99/take target/cxx/take
+	RUN='$(RUN)' tests/list.sh target/test/list target/c/maketable target/c99/check target/c99/list target/cxx/list
 
 #: tables             tables and vector files made from text, and damaged ones
 tables: target/c99/check target/cxx/check target/c/maketable target/c/showtable
@@ -202,7 +203,7 @@ ifndef SEED
 SEED := $(shell od -An -N4 -tu4 /dev/urandom | tr -d ' ')
 endif
 DRIVER = $(RUN) target/c99/driver
-KINDS := tables vectors calls plain voicemail reports moves takes demand3 demand3-voicemail neighbours neighbours-voicemail runs
+KINDS := tables vectors calls plain voicemail reports moves takes lists demand3 demand3-voicemail neighbours neighbours-voicemail runs
 COUNT_tables := 200000
 COUNT_vectors := 100000
 COUNT_calls := 100000
@@ -211,6 +212,7 @@ COUNT_voicemail := 100000
 COUNT_reports := 20000
 COUNT_moves := 50000
 COUNT_takes := 50000
+COUNT_lists := 50000
 COUNT_demand3 := 20000
 COUNT_demand3-voicemail := 20000
 COUNT_neighbours := 100000
@@ -225,7 +227,7 @@ cited: $(ARCHIVES) $(PROGRAMS)
 recipes: $(ARCHIVES) $(PROGRAMS) $(OVER_ARCHIVE) target/c99/decide target/c99/userdata
 	RUN='$(RUN)' tests/recipes.sh target/test/recipes '$(PROGRAM)' $(X86_CC)
 
-#: differential       the libraries beside the independent program on 830,000 new cases, of which 20,000 go to both engines, and 2,000 runs of calls; SEED=N runs a seed again
+#: differential       the libraries beside the independent program on 880,000 new cases, of which 20,000 go to both engines, and 2,000 runs of calls; SEED=N runs a seed again
 differential: target/c99/driver $(BINARY)
 	@for of in $(foreach kind,$(KINDS),$(kind):$(COUNT_$(kind))); do \
 	    echo "differential run: seed $(SEED), $${of#*:} $${of%:*}"; \
@@ -233,7 +235,7 @@ differential: target/c99/driver $(BINARY)
 	done
 
 COUNT_narrow := 10000
-#: narrow             requests that real software sent, 10,000 calls, and 1,000 calls of both engines, of Sh, reports, checks, moves and take-overs on a thread whose stack is 16 KiB; half a minute
+#: narrow             requests that real software sent, 10,000 calls, and 1,000 calls of both engines, of Sh, reports, checks, moves, take-overs and lists on a thread whose stack is 16 KiB; half a minute
 narrow: target/narrow/decide target/narrow/driver target/c/maketable $(BINARY)
 	RUN='$(RUN)' tests/captured.sh target/test/narrow target/c/maketable $(BINARY) target/narrow/decide
 	tests/narrow.sh $(BINARY) $(SEED) $(COUNT_narrow) $(RUN) target/narrow/driver
@@ -261,6 +263,10 @@ cuts: target/c99/takes target/c99/cuts target/c99/take target/c99/cut-take
 #: parsed             100,000 answers of the Sh entry, whose documents an XML parser reads as they were meant, half a minute
 parsed: target/c99/driver
 	$(DOCUMENTS) 100000 $(DRIVER)
+
+#: spreadsheet        what Python's csv and LibreOffice, which it installs from Debian as root, make of a list, beside docs/LIST.md; a minute
+spreadsheet: target/c99/list target/c/maketable
+	tests/spreadsheet.sh target/test/spreadsheet target/c/maketable $(RUN) target/c99/list
 
 # 5,000,000 tables, and as many vector files, calls and calls of Sh. Each round has the next seed: with SEED=N ROUNDS=M a run that was stopped goes on.
 ROUNDS := 50
@@ -295,6 +301,7 @@ stats: $(BINARY)
 	$(BINARY) stats --kind reports --seed $(SEED) --count $(COUNT_reports)
 	$(BINARY) stats --kind moves --seed $(SEED) --count $(COUNT_moves)
 	$(BINARY) stats --kind takes --seed $(SEED) --count $(COUNT_takes)
+	$(BINARY) stats --kind lists --seed $(SEED) --count $(COUNT_lists)
 	$(BINARY) stats --kind neighbours --seed $(SEED) --count $(COUNT_neighbours)
 	$(BINARY) stats --kind neighbours-voicemail --seed $(SEED) --count $(COUNT_neighbours-voicemail)
 
@@ -368,7 +375,8 @@ target/c99/driver: tests/driver.c $(HEADER) $(SH_HEADER) $(ARCHIVES)
 
 target/c99/overstep: tests/overstep.c tests/driver.c $(HEADER) $(SH_HEADER) $(ARCHIVES)
 	mkdir -p $(@D)
-	$(X86_CC) -std=c99 $(STRICT) -Wl,--wrap=ndushavire_check,--wrap=ndushavire_check_vectors,--wrap=ndushavire_plain,--wrap=ndushavire_sh_decide -o $@ \
+	$(X86_CC) -std=c99 $(STRICT) -Wl,--wrap=ndushavire_check,--wrap=ndushavire_check_vectors,--wrap=ndushavire_plain,--wrap=ndushavire_sh_decide \
+	    -Wl,--wrap=ndushavire_export,--wrap=ndushavire_import -o $@ \
 	    tests/overstep.c tests/driver.c $(ARCHIVES)
 
 target/narrow/driver: tests/driver.c
@@ -377,7 +385,7 @@ target/narrow/decide: examples/decide.c examples/load.h examples/fault.h example
 target/narrow/driver target/narrow/decide: tests/narrow.c $(HEADER) $(SH_HEADER) $(ARCHIVES)
 	mkdir -p $(@D)
 	$(X86_CC) -std=c99 $(STRICT) -pthread -Wl,-z,now \
-	    $(foreach entry,check check_vectors decide plain report forward back take sh_decide,-Wl,--wrap=ndushavire_$(entry)) -o $@ $(filter %.c,$^) $(ARCHIVES)
+	    $(foreach entry,check check_vectors decide plain report forward back take export import sh_decide,-Wl,--wrap=ndushavire_$(entry)) -o $@ $(filter %.c,$^) $(ARCHIVES)
 
 target/c99/version: tests/version.c $(HEADER) $(ARCHIVE)
 	mkdir -p $(@D)
@@ -412,11 +420,11 @@ target/c99/month: tests/month.c bench/requests.h examples/load.h $(HEADER) $(ARC
 # The two that answer Sh requests are linked with both archives.
 target/c99/daemon: $(addprefix examples/,base.h files.h log.h remember.h taking.h)
 $(foreach mode,c99 cxx,$(addprefix target/$(mode)/,daemon userdata)): $(SH_HEADER) $(SH_ARCHIVE)
-target/c99/%: examples/%.c examples/load.h examples/fault.h examples/hex.h examples/peers.h examples/stated.h examples/store.h examples/area.h $(HEADER) $(ARCHIVE)
+target/c99/%: examples/%.c examples/load.h examples/fault.h examples/hex.h examples/peers.h examples/stated.h examples/store.h examples/newfile.h examples/area.h $(HEADER) $(ARCHIVE)
 	mkdir -p $(@D)
 	$(X86_CC) -std=c99 $(STRICT) -o $@ $< $(filter %.a,$^)
 
-target/cxx/%: examples/%.c examples/load.h examples/fault.h examples/hex.h examples/peers.h examples/stated.h examples/store.h examples/area.h $(HEADER) $(ARCHIVE)
+target/cxx/%: examples/%.c examples/load.h examples/fault.h examples/hex.h examples/peers.h examples/stated.h examples/store.h examples/newfile.h examples/area.h $(HEADER) $(ARCHIVE)
 	mkdir -p $(@D)
 	$(X86_CXX) $(STRICT) -o $@ -x c++ $< -x none $(filter %.a,$^)
 
@@ -434,16 +442,18 @@ DECIDED := 1-short 16-short 300-short 4096-short 1-tiny 16-tiny 300-tiny 4096-ti
 REPORTED := 16-short 300-short 4096-short
 PLAINLY := 16-short 300-short 4096-short 4096-short-2-4
 TAKEN := 16-short-2 300-short-2 4096-short-2 4096-long-2 4096-short-2-4
+LISTED := 4096-short-2 4096-long-2 4096-short-2-4 4096-long-2-4 4096-alike-2-4
 # A program's arguments: each table, its profile file and how its names are. A table is named by its records, its names, for edition 2 by 2 and,
 # if it has sets, by how many records are in each.
 samples = $(foreach size,$(1),target/bench/$(size).table target/bench/$(size).profile $(word 2,$(subst -, ,$(size))))
 
 #: bench              times beside the aims, and what the plain engine takes beside the quick one, two minutes once their parts are made; a missed aim is marked
-bench: $(addprefix target/bench/,check vectors moves takes decide plain report) $(patsubst %,target/bench/%.table,$(sort $(CHECKED) $(SECOND) $(TAKEN) $(DECIDED)))
+bench: $(addprefix target/bench/,check vectors moves takes list decide plain report) $(patsubst %,target/bench/%.table,$(sort $(CHECKED) $(SECOND) $(TAKEN) $(LISTED) $(DECIDED)))
 	@{ $(CC) --version | head -n 1; \
 	   target/bench/check $(call samples,$(CHECKED) $(SECOND)); \
 	   target/bench/moves $(call samples,$(CHECKED)); \
 	   target/bench/takes $(call samples,$(TAKEN)); \
+	   target/bench/list $(call samples,$(LISTED)); \
 	   target/bench/vectors $(call samples,$(CHECKED)); \
 	   target/bench/decide $(call samples,$(DECIDED)); \
 	   target/bench/plain $(call samples,$(PLAINLY)); \
@@ -481,7 +491,7 @@ target/bench/check target/bench/vectors: target/bench/%: bench/%.c $(TIMER) $(SU
 target/bench/decide: bench/decide.c $(TIMER)
 	$(CC) -std=c99 $(STRICT) -o $@ $< $(TIMED) target/bench/libreference_c.a -lpthread -ldl -lm
 
-target/bench/report target/bench/moves target/bench/takes target/bench/plain: target/bench/%: bench/%.c $(TIMER)
+target/bench/report target/bench/moves target/bench/takes target/bench/list target/bench/plain: target/bench/%: bench/%.c $(TIMER)
 	$(CC) -std=c99 $(STRICT) -o $@ $< $(TIMED)
 
 # One program for both bindings: which it is says the environment that it is run in.

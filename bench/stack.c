@@ -50,6 +50,11 @@ static void report(void) {
 static uint8_t fresh[NDUSHAVIRE_TABLE_MAX], area[NDUSHAVIRE_TABLE_MAX]; /* the table in edition 2, and nothing, or what was taken over before */
 static void take(void) { word = ndushavire_take(area, s->table_len, fresh, s->table_len, s->profile, s->profile_len); }
 
+static uint8_t listed[NDUSHAVIRE_LIST_MAX]; /* that table as a list */
+static size_t listed_len;
+static void export_list(void) { word = ndushavire_export(fresh, s->table_len, s->profile, s->profile_len, listed, sizeof listed); }
+static void import_list(void) { word = ndushavire_import(listed, listed_len, fresh, NDUSHAVIRE_BLOCK, s->profile, s->profile_len, area, sizeof area); }
+
 static void forward(void) { word = ndushavire_forward(s->table, s->table_len, s->profile, s->profile_len, 7); }
 static void back(void) { word = ndushavire_back(s->table, s->table_len, s->profile, s->profile_len); }
 
@@ -59,7 +64,8 @@ static struct {
     const char *name;
     size_t most;
 } entries[] = {{check, "check", 0}, {check_vectors, "vector check", 0}, {forward, "move forward", 0},
-               {back, "move back", 0}, {take, "take-over", 0}, {decide, "decide", 0}, {plain, "plain engine", 0}, {report, "report", 0}, {sh_decide, "Sh", 0}};
+               {back, "move back", 0}, {take, "take-over", 0}, {export_list, "export", 0}, {import_list, "import", 0},
+               {decide, "decide", 0}, {plain, "plain engine", 0}, {report, "report", 0}, {sh_decide, "Sh", 0}};
 enum { ENTRIES = sizeof entries / sizeof entries[0] };
 static int lazily, sets; /* how memset and the like are bound; whether the table has sets, for which the check has more to call */
 static uint32_t due;     /* the number that the calls return */
@@ -149,6 +155,17 @@ static int measure_takes(void) {
     return passes;
 }
 
+/* The table that was taken over becomes a list, and that the table again. */
+static int measure_lists(void) {
+    int passes = within(export_list, "export");
+    listed_len = ndushavire_value(word);
+    memset(area, 0, s->table_len);
+    passes &= within(import_list, "import");
+    const int same = memcmp(area, fresh, s->table_len) == 0;
+    if (!same) fprintf(stderr, "stack: the list does not give the table back\n");
+    return passes & same;
+}
+
 /* A voicemail box asks: of a line, with an AVP at fault, and with nothing behind the header. The report has none of these. */
 static int measure_sh(const uint8_t *registered) {
     ask_user_data(&request, registered);
@@ -169,6 +186,7 @@ static int measure_all(const uint8_t *registered) {
     passes &= measure_sh(registered);
     passes &= measure_moves();
     passes &= measure_takes();
+    passes &= measure_lists();
     if (strcmp(s->names, "tiny") == 0) {
         ask_assignment(&request, s->table, s->records, registered, 6, 1);
         passes &= decides("removal of 1");

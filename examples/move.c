@@ -2,14 +2,13 @@
  * move back TABLE PROFILE NEW: moves a table of edition 2 in which every set number is 0 to edition 1.
  * It is installed as ndushavire-move.
  * The moved table is the new file NEW, and TABLE stays as it is: a move within the file would mix editions if the power went. NEW must
- * not be there, nor NEW.new, which is written first and then renamed. A daemon goes on with TABLE until it is given the other one.
+ * not be there, nor NEW.new, which is written first and then gets that name. A daemon goes on with TABLE until it is given the other one.
  * Exit status: 0 moved, and NEW is on disk; 1 refused, and there is no NEW; 2 a file cannot be read or stored, standard output cannot
  * be written, or the arguments are others. */
 #define _POSIX_C_SOURCE 200809L
 #include <ndushavire.h>
 
-#include "load.h"
-#include "store.h"
+#include "newfile.h"
 
 static int is(const char *word, const char *other) { return strcmp(word, other) == 0; }
 
@@ -20,41 +19,6 @@ static int is_issue(const char *word, uint32_t *issue) {
     for (; *at >= '0' && *at <= '9' && number <= UINT32_MAX; at++) number = number * 10 + (uint64_t)(*at - '0');
     *issue = (uint32_t)number;
     return at != word && *at == '\0' && number <= UINT32_MAX;
-}
-
-static void fail(const char *path, const char *end, const char *why) {
-    fprintf(stderr, "%s%s: %s\n", path, end, why);
-    exit(2);
-}
-
-/* The folder of a path, open, and the name in it. Nothing may have that name, nor the one that is written first. */
-static int folder_of(const char *path, const char **name) {
-    const char *slash = strrchr(path, '/');
-    const size_t length = slash == NULL ? 0 : (size_t)(slash - path) + 1;
-    char *folder = (char *)malloc(length + 2), *fresh = (char *)malloc(strlen(path) + 5);
-    if (folder == NULL || fresh == NULL) fail(path, "", strerror(errno));
-    memcpy(folder, path, length);
-    strcpy(folder + length, length == 0 ? "." : "");
-    strcat(strcpy(fresh, path), ".new");
-    *name = path + length;
-    struct stat found;
-    if (**name == '\0') fail(path, "", "no name of a file");
-    if (lstat(path, &found) == 0) fail(path, "", "is there already");
-    if (lstat(fresh, &found) == 0) fail(path, ".new", "is there already");
-    const int opened = open(folder, O_RDONLY | O_DIRECTORY | O_CLOEXEC);
-    if (opened < 0) fail(folder, "", strerror(errno));
-    free(folder);
-    free(fresh);
-    return opened;
-}
-
-/* Stores the moved table, or ends the program. */
-static void store_at(int folder, const char *path, const char *name, const uint8_t *table, size_t length) {
-    switch (store(folder, name, table, length)) {
-    case STORED: return;
-    case NOT_STORED: fail(path, "", strerror(errno)); break;
-    case UNSURE: fail(path, ", which is there and may be gone after a power cut", strerror(errno));
-    }
 }
 
 /* Why a move was refused. Of a sound table of the other edition, or in a longer area, the library says block 0, and only a check, whose word is

@@ -5,12 +5,12 @@
  * understand it. B2001 is the result 2001 as a base Result-Code, and X2001 the same number as an Experimental-Result of vendor 10415: they mean different
  * things.
  *
- * Who owns what. The caller owns every byte. All slices (request, table, profile, vectors, answer, requests, report, area, fresh) are lent
+ * Who owns what. The caller owns every byte. All slices (request, table, profile, vectors, answer, requests, report, area, fresh, list, header) are lent
  * for the length of the call and none is kept: the library has no state of its own, opens no file, takes no memory and
  * starts nothing. The slices of one call must not overlap. Every pointer is non-null, also where its length is 0.
  * Only these write: ndushavire_decide, ndushavire_plain and ndushavire_report, to the answer, the table and the vectors, and the last also to its
- * report; ndushavire_forward and ndushavire_back, to their table; and ndushavire_take, to its area. What must outlive the process is for the
- * caller to store.
+ * report; ndushavire_forward and ndushavire_back, to their table; ndushavire_take, to its area; ndushavire_export, to its list, and ndushavire_import, to its
+ * table. What must outlive the process is for the caller to store.
  *
  * What a call can alter, of table and vectors; all of this is proved, so nobody has to compare files to see that nothing changed.
  * - ndushavire_decide alters the table only under a SAR (301) or a MAR (303) that is answered with a success, a result of 2xxx, B or X;
@@ -23,11 +23,14 @@
  * - ndushavire_forward and ndushavire_back write to every block of a table that they move, the edition, the issue number and the check
  *   word, and nothing if they refuse.
  * - ndushavire_take writes the new table over the front of its area, and nothing behind it; and nothing if it refuses.
+ * - ndushavire_export writes a list and alters no table. ndushavire_import writes a table at the front of an area of its own, and nothing behind it.
+ *   Both write nothing if they refuse.
  * - ndushavire_check and ndushavire_check_vectors alter nothing.
  *
  * Threads. A call is reentrant; it sets no errno and raises no signal. Calls on different tables and vectors may run at
- * once and share one profile. While a call runs that writes, no one else may read or write its table or area, its vectors, its answer
- * or its report. Checks of one table, or of one vector file, may run beside each other, and so may calls of ndushavire_sh_decide.
+ * once and share one profile. While a call runs that writes, no one else may read or write its table or area, its vectors, its answer,
+ * its report or its list. Checks of one table, or of one vector file, may run beside each other, and so may calls of ndushavire_sh_decide, and
+ * exports of one table, each to a list of its own.
  *
  * The profile file is what call servers are sent of each line: bytes without a structure of their own, into which the
  * table's records point. Table and profile file are a pair, made, checked and kept together.
@@ -35,12 +38,12 @@
  * The working area. A table may lie in an area that is longer than it: ndushavire_decide, ndushavire_plain, ndushavire_check and ndushavire_report
  * take one of at least 512 x (count + 1) bytes, and look at nothing past that, neither blocks nor a last piece of under 512 bytes. What stands there stays
  * and does not matter. A shorter one has block 0 bad. Everything else that takes a table takes it alone, of its exact length: both
- * moves, and the new table of a take-over.
+ * moves, the new table of a take-over, and an export.
  *
  * Editions of a table. A table is of edition 1, or of edition 2, which has an issue number in every block and in each record the number
  * of an implicit set, 0 for none. One that mixes editions or issue numbers is unsound. Every function reads both editions, but for the new
- * table of a take-over, which is of edition 2. No answer depends on a table's edition or issue. ndushavire_forward and ndushavire_back move a
- * table from one to the other.
+ * table of a take-over and the table of a list, which are of edition 2. No answer depends on a table's edition or issue. ndushavire_forward and
+ * ndushavire_back move a table from one to the other.
  *
  * Sets. The records of one private identity with the same set number, other than 0, are an implicit set: what a request does to one
  * of them it does to all. A table is sound only if the records of each set agree in state, pending and server name; the later block
@@ -53,6 +56,10 @@
  *
  * The month's numbers. ndushavire_report decides a whole file of requests again and counts. It alters its table and marks its
  * vectors as those decisions did, so it is lent copies from before the first of them, and never the live ones.
+ *
+ * Lists. ndushavire_export writes the records of a table of edition 2 as lines of text, for a billing desk; ndushavire_import makes the same
+ * table again from that text, byte for byte. docs/LIST.md has the columns. There is one text for each table, and import takes that alone: what a
+ * spreadsheet has saved in another form is refused, with the number of the first line that is wrong. A list names subscribers: keep it as the table is kept.
  *
  * Stack. A call takes under 12 KiB by itself, most of it to remember the sets that the check has met. It calls memset and memcpy, and a
  * first call that is bound lazily takes what the dynamic linker takes besides: some 3.2 KB on x86-64 with AVX-512, where decisions then
@@ -97,8 +104,8 @@
 extern "C" {
 #endif
 
-#define NDUSHAVIRE_VERSION "0.15.0"
-#define NDUSHAVIRE_VERSION_NUMBER 1500 /* the same to compare: major x 10,000 + minor x 100 + patch */
+#define NDUSHAVIRE_VERSION "0.16.0"
+#define NDUSHAVIRE_VERSION_NUMBER 1600 /* the same to compare: major x 10,000 + minor x 100 + patch */
 
 #define NDUSHAVIRE_ANSWER_ROOM 36864       /* the least answer buffer, in bytes: no answer is longer */
 #define NDUSHAVIRE_REQUEST_MIN 20          /* the shortest request, a Diameter header alone */
@@ -109,6 +116,7 @@ extern "C" {
 #define NDUSHAVIRE_VECTORS_MAX 4096        /* the most vectors of a vector file */
 #define NDUSHAVIRE_VECTOR_FILE_MAX 2097152 /* the longest vector file, in bytes */
 #define NDUSHAVIRE_REPORT_ROOM 1160        /* the least report area, in bytes: its 145 words of 64 bits */
+#define NDUSHAVIRE_LIST_MAX 3440761        /* no list is longer, in bytes: its first line of 121, and one of up to 840 for each of the most records */
 
 /* The editions of the base standard, by the numbers of their RFCs, one of which the daemon states for each peer. Under RFC 6733 a
  * Vendor-Specific-Application-Id (260) with a second Vendor-Id and all else of it right gets B5009, with the whole of it in Failed-AVP and its
@@ -122,12 +130,13 @@ extern "C" {
 /* Each function but ndushavire_version returns a word. Keep it in a uint64_t: an int loses the number, and a refusal then looks like a short
  * answer. Its number is 0, or why the call was refused; a refused call has written nothing, but for number 7, which comes
  * at a report's end. Later versions add numbers: every one but 0, known or not, is a refusal. */
-#define NDUSHAVIRE_DONE 0               /* answered; of a check, sound; of a report, the requests read to their end; moved; taken over */
+#define NDUSHAVIRE_DONE 0               /* answered; of a check, sound; of a report, the requests read to their end; moved; taken over; exported; imported */
 #define NDUSHAVIRE_ANSWER_SHORT 1       /* the answer buffer is under NDUSHAVIRE_ANSWER_ROOM */
 #define NDUSHAVIRE_REQUEST_SIZE 2       /* the request is under or over its limits */
 #define NDUSHAVIRE_REQUEST_LENGTH 3     /* its header's length is not its own, or no multiple of 4 */
 #define NDUSHAVIRE_NO_REQUEST 4         /* the R bit is clear */
-#define NDUSHAVIRE_TABLE_UNSOUND 5      /* the value is the first bad block; of a move, 0 for a sound table of the other edition */
+#define NDUSHAVIRE_TABLE_UNSOUND 5      /* the value is the first bad block; of a move, 0 for a sound table of the other edition; of an export, 0 for one of
+                                         * edition 1; of an import, always 0: its header block is not of 512 bytes, unsound, or of edition 1 */
 #define NDUSHAVIRE_VECTORS_UNSOUND 6    /* the value is 0; of ndushavire_check_vectors it is the first bad block */
 #define NDUSHAVIRE_REQUESTS_BROKEN 7    /* of a report, which has the numbers so far: the next request is cut off or out of step */
 #define NDUSHAVIRE_TABLE_HAS_SETS 8     /* of the move back: the value is the first block whose set number is not 0 */
@@ -135,7 +144,10 @@ extern "C" {
 #define NDUSHAVIRE_ISSUE_NOT_GREATER 10 /* of a take-over: a header or record in the area has the new table's issue, or a greater one */
 #define NDUSHAVIRE_AREA_SHORT 11        /* of a take-over: the area is shorter than the new table */
 #define NDUSHAVIRE_PEER_UNKNOWN 12      /* the peer's base standard is neither NDUSHAVIRE_RFC_3588 nor NDUSHAVIRE_RFC_6733; tried before 1 */
-#define NDUSHAVIRE_OUTPUT_SHORT 15      /* the report area is under NDUSHAVIRE_REPORT_ROOM */
+#define NDUSHAVIRE_NAME_UNLISTABLE 13   /* of an export: the value is the first block with a byte outside 32 to 126 in one of its three names */
+#define NDUSHAVIRE_LINE_WRONG 14        /* of an import: the value is the first line, counted from 1, that no export could hold there; it may be missing */
+#define NDUSHAVIRE_OUTPUT_SHORT 15      /* the report area is under NDUSHAVIRE_REPORT_ROOM; of an export or an import, its area is shorter than what it
+                                         * is to hold; tried last there, and the value is 0 */
 
 /* Answers one request, rewrites the records that it changes, those of their sets with them, and marks the vectors that it sends. The
  * word's value is the answer's length; the buffer's bytes past it stay as they were. Its place says which AVP of the request is at
@@ -211,6 +223,31 @@ uint64_t ndushavire_back(uint8_t *table, size_t table_len, const uint8_t *profil
  * 11 the area is shorter than the new table. */
 uint64_t ndushavire_take(uint8_t *area, size_t area_len, const uint8_t *fresh, size_t fresh_len, const uint8_t *profile, size_t profile_len);
 
+/* Writes the records of TABLE, which is sound beside PROFILE, of edition 2 and alone in its slice, to LIST: a line with the names of the columns, then a
+ * line for each record in table order, so that block k stands in line k + 1. docs/LIST.md has the bytes. An area of NDUSHAVIRE_LIST_MAX bytes holds every
+ * list; bytes past the list stay. The table and the profile file are only read. Nothing of the header block is listed, nor of the profile file: to make the
+ * table again, both are wanted beside the list.
+ * The word's number is 0 and its value how many bytes were written, which is the list's length; or, tried in this order, with nothing written:
+ * 5  the table is unsound, with its first bad block, or longer than its records, or of edition 1, with block 0;
+ * 13 a public identity, a private identity or a server name has a byte outside 32 to 126, which has no place in a list: the first block that has one;
+ * 15 the area is shorter than the list, with value 0. */
+uint64_t ndushavire_export(const uint8_t *table, size_t table_len, const uint8_t *profile, size_t profile_len, uint8_t *list, size_t list_len);
+
+/* Makes the table that LIST says, under HEADER, which is the header block of a table of edition 2, its first 512 bytes, and beside PROFILE. HEADER is copied
+ * as it is; the records get its issue number and check words of their own. It takes exactly what ndushavire_export can write under such a header
+ * block and beside this profile file, to the byte, and gives the table that was exported: that is proved. So with the same header block and profile file
+ * there and back gives the first bytes again. Bytes of TABLE past the new table stay.
+ * The word's number is 0 and its value how many bytes were written, 512 x (count + 1); or, tried in this order, with nothing written:
+ * 5  the header block is not of 512 bytes, is unsound, or is of edition 1, with value 0;
+ * 14 no export could have written this list. The value is the number of the first line that no export could hold there behind those before it, counted
+ *    from 1, the line with the columns' names: one that is not in the form of a list, or whose record breaks a rule of the table; the first one missing,
+ *    where there are fewer than the header block counts; the first one too many;
+ * 15 the area is shorter than the table, with value 0.
+ * A list of thousands of records takes some tens of milliseconds, one whose names were chosen to make it slow some seconds: it is not for the thread that
+ * serves. */
+uint64_t ndushavire_import(const uint8_t *list, size_t list_len, const uint8_t *header, size_t header_len, const uint8_t *profile, size_t profile_len,
+                           uint8_t *table, size_t table_len);
+
 /* The version of the library that was linked, as the number of NDUSHAVIRE_VERSION_NUMBER in the header that came with it. */
 uint32_t ndushavire_version(void);
 
@@ -241,7 +278,8 @@ static inline uint32_t ndushavire_number(uint64_t word) { return (uint32_t)(word
  * examples/fault.h prints them. Of a fault within a group it is the group's place. Under B5014 the AVP before it may be the one
  * whose length is wrong.
  * It is 0 where no AVP of the request is at fault: under header faults, B5005, X results, whatever a decision says (B5003,
- * B5012, the B5009 of a SAR's second identity), success; under every refusal; of both checks, of both moves, of a take-over, and of a report. */
+ * B5012, the B5009 of a SAR's second identity), success; under every refusal; of both checks, of both moves, of a take-over, of a report, of
+ * an export, and of an import. */
 static inline uint32_t ndushavire_place(uint64_t word) { return (uint32_t)(word >> 32) & 0xFFFFu; }
 
 /* The answer's length is this part alone: the word of an answer with a place is a far greater number. */
@@ -258,6 +296,9 @@ static inline int ndushavire_moved(uint64_t word) { return ndushavire_number(wor
 
 /* Of ndushavire_take: whether the new table was taken over. */
 static inline int ndushavire_taken(uint64_t word) { return ndushavire_number(word) == NDUSHAVIRE_DONE; }
+
+/* Of ndushavire_export and ndushavire_import: whether the list, or the table, was written. */
+static inline int ndushavire_written(uint64_t word) { return ndushavire_number(word) == NDUSHAVIRE_DONE; }
 
 /* Of a sound table: its edition, 1 or 2, and its issue number, which is 0 in edition 1. */
 static inline uint32_t ndushavire_edition(const uint8_t *table) { return table[1]; }

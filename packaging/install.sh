@@ -50,7 +50,7 @@ list_files() { # ARCHIVE.. PROGRAM..
         name=${file##*/}
         case $name in
         *.a) goes "$file" "$libdir/$name" 644 && continue ;;
-        check | maketable | move | report | showtable | take) name=ndushavire-$name ;;
+        check | list | maketable | move | report | showtable | take) name=ndushavire-$name ;;
         esac
         goes "$file" "$bindir/$name" 755
     done

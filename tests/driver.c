@@ -73,6 +73,16 @@ static uint64_t take(const struct lent *lent)
     return ndushavire_take(SLICE(0), SLICE(1), SLICE(2));
 }
 
+static uint64_t export_list(const struct lent *lent)
+{
+    return ndushavire_export(SLICE(0), SLICE(1), SLICE(2));
+}
+
+static uint64_t import_list(const struct lent *lent)
+{
+    return ndushavire_import(SLICE(0), SLICE(1), SLICE(2), SLICE(3));
+}
+
 static uint64_t sh_decide(const struct lent *lent)
 {
     return ndushavire_sh_decide(SLICE(0), SLICE(1), SLICE(2), SLICE(3), lent->number[0]);
@@ -84,7 +94,7 @@ static uint64_t plain(const struct lent *lent)
 }
 
 /* The entries by their number in the streams, from 1 on: a letter for each slice, r if it is lent to be read and w if
- * the entry may write to it; how many numbers; the call. Numbers 8, 9 and 11 are those of entries that neither library has. */
+ * the entry may write to it; how many numbers; the call. Number 11 is that of an entry that neither library has. */
 static const struct entry {
     const char *slices;
     unsigned numbers;
@@ -97,8 +107,8 @@ static const struct entry {
     {"wr", 1, forward},
     {"wr", 0, back},
     {"wrr", 0, take},
-    {NULL, 0, NULL},
-    {NULL, 0, NULL},
+    {"rrw", 0, export_list},
+    {"rrrw", 0, import_list},
     {"rrrw", 1, sh_decide},
     {NULL, 0, NULL},
     {"rwrww", 2, plain},

@@ -69,6 +69,11 @@ static void sh_holds(void) {
 #endif
 }
 
+/* The first line of every list; and the longest one of a record, whose three names have nothing but quotes, 128, 128 and 96 of them, each doubled. */
+static const char columns[] = "public,private,server,state,pending,barred,services,roaming,mandatory,m1,m2,m3,m4,optional,o1,o2,o3,o4,start,length,set\r\n";
+static const char longest[] = "\"\",\"\",\"\",2,1,1,1,255,4,4294967295,4294967295,4294967295,4294967295,4,4294967295,4294967295,4294967295,4294967295,"
+                              "4294967295,4096,65535\r\n";
+
 int main(void) {
     unsigned major, minor, patch;
     char rest;
@@ -78,19 +83,26 @@ int main(void) {
     holds(NDUSHAVIRE_TABLE_MAX == NDUSHAVIRE_BLOCK * (NDUSHAVIRE_RECORDS_MAX + 1),
           "NDUSHAVIRE_TABLE_MAX is not the header and the most records");
     holds(NDUSHAVIRE_VECTOR_FILE_MAX == NDUSHAVIRE_BLOCK * NDUSHAVIRE_VECTORS_MAX, "NDUSHAVIRE_VECTOR_FILE_MAX is not the most vectors");
+    holds(NDUSHAVIRE_LIST_MAX == sizeof columns - 1 + (size_t)NDUSHAVIRE_RECORDS_MAX * (sizeof longest - 1 + 2 * (128 + 128 + 96)),
+          "NDUSHAVIRE_LIST_MAX is not the first line and the most records' longest lines");
 #if NDUSHAVIRE_VERSION_NUMBER < 800 || NDUSHAVIRE_TABLE_MAX < 2 || NDUSHAVIRE_VECTOR_FILE_MAX < 2 || NDUSHAVIRE_REPORT_ROOM != 1160 || \
     NDUSHAVIRE_VECTORS_UNSOUND != 6 || NDUSHAVIRE_REQUESTS_BROKEN != 7 || NDUSHAVIRE_TABLE_HAS_SETS != 8 || NDUSHAVIRE_NEW_UNSOUND != 9 || \
-    NDUSHAVIRE_ISSUE_NOT_GREATER != 10 || NDUSHAVIRE_AREA_SHORT != 11 || NDUSHAVIRE_PEER_UNKNOWN != 12 || NDUSHAVIRE_OUTPUT_SHORT != 15 || \
+    NDUSHAVIRE_ISSUE_NOT_GREATER != 10 || NDUSHAVIRE_AREA_SHORT != 11 || NDUSHAVIRE_PEER_UNKNOWN != 12 || \
+    NDUSHAVIRE_NAME_UNLISTABLE != 13 || NDUSHAVIRE_LINE_WRONG != 14 || NDUSHAVIRE_OUTPUT_SHORT != 15 || NDUSHAVIRE_LIST_MAX != 3440761 || \
     NDUSHAVIRE_RFC_3588 != 3588 || NDUSHAVIRE_RFC_6733 != 6733 || NDUSHAVIRE_NO_FEATURES != 0
     holds(0, "a number is no number to the preprocessor");
 #endif
     const uint64_t word = (uint64_t)5 << 48 | (uint64_t)0xFFFF << 32 | 0x89ABCDEFu;
     holds(ndushavire_number(word) == 5 && ndushavire_place(word) == 0xFFFF && ndushavire_value(word) == 0x89ABCDEFu, "a word's parts");
-    holds(!ndushavire_answered(word) && !ndushavire_sound(word) && !ndushavire_moved(word) && !ndushavire_taken(word), "a refusal taken for an answer");
+    holds(!ndushavire_answered(word) && !ndushavire_sound(word) && !ndushavire_moved(word) && !ndushavire_taken(word) && !ndushavire_written(word),
+          "a refusal taken for an answer");
     const uint64_t has_sets = (uint64_t)NDUSHAVIRE_TABLE_HAS_SETS << 48 | NDUSHAVIRE_RECORDS_MAX;
     holds(!ndushavire_moved(has_sets) && ndushavire_value(has_sets) == 4096 && ndushavire_place(has_sets) == 0, "a move refused for a set");
     holds(ndushavire_moved(NDUSHAVIRE_RECORDS_MAX) && ndushavire_moved(0), "a move taken for a refusal");
     holds(ndushavire_taken(NDUSHAVIRE_RECORDS_MAX) && !ndushavire_taken((uint64_t)NDUSHAVIRE_NEW_UNSOUND << 48), "a take-over taken for a refusal");
+    const uint64_t missing = (uint64_t)NDUSHAVIRE_LINE_WRONG << 48 | (NDUSHAVIRE_RECORDS_MAX + 2); /* the last line that can be named */
+    holds(!ndushavire_written(missing) && ndushavire_value(missing) == 4098 && ndushavire_place(missing) == 0, "a list refused at a line");
+    holds(ndushavire_written(NDUSHAVIRE_LIST_MAX) && ndushavire_written(NDUSHAVIRE_BLOCK), "a list or a table that was written taken for a refusal");
     holds(!ndushavire_answered((uint64_t)0xFFFF << 48), "a number that is not known taken for an answer");
     holds(!ndushavire_answered((uint64_t)NDUSHAVIRE_PEER_UNKNOWN << 48), "an unknown edition taken for an answer");
     const uint64_t faulty = (uint64_t)(NDUSHAVIRE_REQUEST_MAX - 4) << 32 | NDUSHAVIRE_ANSWER_ROOM; /* the last place that there is */

@@ -18,7 +18,7 @@ fail() {
 }
 command -v pkg-config >/dev/null || fail 'pkg-config is missing (Debian: pkg-config)'
 programs=(bin/ndushavire-maketable bin/ndushavire-showtable)
-[ "$(uname -m)" != x86_64 ] || programs+=(bin/answer bin/ndushavire-check bin/ndushavire-move bin/ndushavire-report bin/ndushavire-take bin/tablecheck)
+[ "$(uname -m)" != x86_64 ] || programs+=(bin/answer bin/ndushavire-check bin/ndushavire-list bin/ndushavire-move bin/ndushavire-report bin/ndushavire-take bin/tablecheck)
 # The functions of each library, which its page names.
 libraries=(ndushavire ndushavire_sh)
 functions_of() { sed -n -E '/^[a-z]/s/^[^(]* (ndushavire_[a-z_]+)\(.*/\1/p' "$top/include/$1.h"; } # LIBRARY
@@ -42,7 +42,7 @@ quiet() { make -s -C "$top" "$@"; }
     (cd "$top" && printf 'share/doc/ndushavire/%s\n' examples/* examples/{icscf-20-lir,scscf-12-sar,mar-33,mar-16}.hex)
     (cd "$top" && printf '%s\n' man/* | sed 's|^man/\(.*\)\.\(.\)$|share/man/man\2/\1.\2|')
 } | sed '/^$/d' | sort >"$room/expected"
-for name in share/man/man1/{answer,tablecheck,ndushavire-{check,maketable,move,report,showtable,take}}.1 share/man/man3/ndushavire{,_value,_sh,_sh_decide}.3 \
+for name in share/man/man1/{answer,tablecheck,ndushavire-{check,list,maketable,move,report,showtable,take}}.1 share/man/man3/ndushavire{,_value,_sh,_sh_decide}.3 \
     share/man/man7/ndushavire.7 share/doc/ndushavire/examples/{move.c,store.h,userdata.c}; do
     grep -q -x -F "$name" "$room/expected" || fail "the tree has no $name"
 done
@@ -177,7 +177,11 @@ if [ -e "$room/prefix/bin/answer" ]; then
         fail 'ndushavire-move does not move the sample'
     [ "$("$room/prefix/bin/ndushavire-take" table moved profile)" = 'taken over, 9 records, issue 7' ] && cmp table moved >&2 ||
         fail 'ndushavire-take does not take the moved sample over'
-    rm moved
+    [ "$("$room/prefix/bin/ndushavire-list" export moved profile list.csv)" = "exported, 9 records, $(wc -c <list.csv) bytes" ] ||
+        fail 'ndushavire-list does not export the moved sample'
+    [ "$("$room/prefix/bin/ndushavire-list" import list.csv moved profile again)" = 'imported, 9 records, issue 7' ] && cmp moved again >&2 ||
+        fail 'ndushavire-list does not give the moved sample back'
+    rm moved list.csv again
     refused=$(head -c 19 /dev/zero | "$room/prefix/bin/answer")
     [ "$refused" = 'refused 2' ] || fail "answer says '$refused' of 19 bytes"
 fi

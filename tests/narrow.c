@@ -48,6 +48,12 @@ uint64_t __real_ndushavire_take(uint8_t *area, size_t area_len, const uint8_t *f
                                 size_t profile_len);
 uint64_t __wrap_ndushavire_take(uint8_t *area, size_t area_len, const uint8_t *fresh, size_t fresh_len, const uint8_t *profile,
                                 size_t profile_len);
+uint64_t __real_ndushavire_export(const uint8_t *table, size_t table_len, const uint8_t *profile, size_t profile_len, uint8_t *list, size_t list_len);
+uint64_t __wrap_ndushavire_export(const uint8_t *table, size_t table_len, const uint8_t *profile, size_t profile_len, uint8_t *list, size_t list_len);
+uint64_t __real_ndushavire_import(const uint8_t *list, size_t list_len, const uint8_t *header, size_t header_len, const uint8_t *profile,
+                                  size_t profile_len, uint8_t *table, size_t table_len);
+uint64_t __wrap_ndushavire_import(const uint8_t *list, size_t list_len, const uint8_t *header, size_t header_len, const uint8_t *profile,
+                                  size_t profile_len, uint8_t *table, size_t table_len);
 uint64_t __real_ndushavire_sh_decide(const uint8_t *request, size_t request_len, const uint8_t *table, size_t table_len, const uint8_t *profile,
                                      size_t profile_len, uint8_t *answer, size_t answer_len, uint32_t peer);
 uint64_t __wrap_ndushavire_sh_decide(const uint8_t *request, size_t request_len, const uint8_t *table, size_t table_len, const uint8_t *profile,
@@ -74,6 +80,8 @@ static void report(void) { lent.word = __real_ndushavire_report(READ(0), WRITTEN
 static void forward(void) { lent.word = __real_ndushavire_forward(WRITTEN(0), READ(1), lent.number[0]); }
 static void back(void) { lent.word = __real_ndushavire_back(WRITTEN(0), READ(1)); }
 static void take(void) { lent.word = __real_ndushavire_take(WRITTEN(0), READ(1), READ(2)); }
+static void export_list(void) { lent.word = __real_ndushavire_export(READ(0), READ(1), WRITTEN(2)); }
+static void import_list(void) { lent.word = __real_ndushavire_import(READ(0), READ(1), READ(2), WRITTEN(3)); }
 static void sh_decide(void) { lent.word = __real_ndushavire_sh_decide(READ(0), READ(1), READ(2), WRITTEN(3), lent.number[0]); }
 
 static void (*call)(void);
@@ -238,6 +246,24 @@ uint64_t __wrap_ndushavire_take(uint8_t *area, size_t area_len, const uint8_t *f
     lend_read(1, fresh, fresh_len);
     lend_read(2, profile, profile_len);
     return narrow(take);
+}
+
+uint64_t __wrap_ndushavire_export(const uint8_t *table, size_t table_len, const uint8_t *profile, size_t profile_len, uint8_t *list, size_t list_len)
+{
+    lend_read(0, table, table_len);
+    lend_read(1, profile, profile_len);
+    lend_written(2, list, list_len);
+    return narrow(export_list);
+}
+
+uint64_t __wrap_ndushavire_import(const uint8_t *list, size_t list_len, const uint8_t *header, size_t header_len, const uint8_t *profile,
+                                  size_t profile_len, uint8_t *table, size_t table_len)
+{
+    lend_read(0, list, list_len);
+    lend_read(1, header, header_len);
+    lend_read(2, profile, profile_len);
+    lend_written(3, table, table_len);
+    return narrow(import_list);
 }
 
 uint64_t __wrap_ndushavire_sh_decide(const uint8_t *request, size_t request_len, const uint8_t *table, size_t table_len, const uint8_t *profile,

@@ -9,7 +9,7 @@ compare() { # KIND COUNT
     "$reference" compare --kind "$1" --seed "$seed" --count "$2" -- "${driver[@]}"
 }
 
-others=(plain voicemail reports tables vectors moves takes)
+others=(plain voicemail reports tables vectors moves takes lists)
 echo "narrow.sh: seed $seed, $count calls, and $((count / 10)) of each of ${others[*]}, on a stack of 16 KiB"
 compare calls "$count"
 for kind in "${others[@]}"; do
@@ -17,7 +17,7 @@ for kind in "${others[@]}"; do
 done
 for kind in calls "${others[@]}"; do
     status=0
-    said=$(SPENT=16000 compare "$kind" 1 2>&1) || status=$?
+    said=$(SPENT=16000 compare "$kind" 20 2>&1) || status=$? # a call that is refused at once may find room
     [ "$status" = 1 ] && grep -q 'narrow: a call needs more than a stack of 16 KiB' <<<"$said" || {
         echo "narrow.sh: $kind end with status $status on a stack that has no room" >&2
         exit 1

@@ -28,6 +28,11 @@ STATEMENTS = {
     'demands/TakingOver': '02 [8]',
     'demands/Together': '02 [6]',
     'demands/Unreachable': '02 [7]',
+    'list_laws/Exactly': '02 [14]',
+    'list_laws/FirstLine': '02 [14]',
+    'list_laws/Longest': '02 [14]',
+    'list_laws/Refusing': '02 [14]',
+    'list_laws/Words': '02 [14]',
     'moving/Moving': '02 [5]',
     'neighbour/Neighbour': '02 [9]',
     'older_rules/Sets': '02 [6]',
@@ -46,10 +51,10 @@ STATEMENTS = {
 WITH_STEPS = {'rewrite/Reaching', 'seen_alike/Likeness'}
 # Modules of proofs/, in whatever crate, that docs/PROVED.md cites under "Proved" and that are no such pages: examples, instances, wrong servers, single laws.
 NO_STATEMENTS = set('''
-    Areas AsWalked Challenges Editions Escaping Examples Family Features Listing Members Moves Peers Reached Readings Room Same Servers Sole Sound TakeOvers Worked
+    Areas AsWalked Cases Challenges Editions Escaping Examples Family Features Instances Listing Members Moves One Peers Reached Readings Room Same Servers Sole Sound TakeOvers Worked
 '''.split())
 # The crates that have wrong servers or wrong reporters, each with a theorem `.. -fails`.
-WRONG = ('report_example', 'sets_example', 'sh_example', 'taking_example', 'wrong_servers')
+WRONG = ('report_example', 'sets_example', 'sh_example', 'taking_example', 'wrong_lists', 'wrong_servers')
 # What a cell of the column Theorem says where there is no theorem: it is the contract of a function of that row; or there is none, and why.
 MARKS = ('the contract', 'none:')
 
@@ -57,7 +62,7 @@ MARKS = ('the contract', 'none:')
 OTHERS = set('''
     Bool abbrev ensures false match none not pub requires true unfoldable use mod zero wrapping_add wrapping_sub memcpy memset strict_mbit cxdx_forced_peer
     diameter_gen_base_rfc3588 diameter_gen_base_rfc6733 AKAv1-MD5 Digest-AKAv1-MD5 unknown nonce= response= axioms= libraries-built=trusted logic-built=trusted
-    Bob a aa bob isle r key=value
+    Bob a aa bob isle r key=value m1 m4 o1 o4
 '''.split()) | {
     r'a\0', '#', r'\"', r'\\', r'\xHH', 't .entry', 'refused 2', 'installed', 'number << 48', 'number << 48 | place << 32 | value', 'N passed, 0 failed',
     'PKG_CONFIG_PATH=PREFIX/lib/pkgconfig', "awk '$1 < 10'", 'chmod a-w', 'freeDiameterd -c relay.conf', 'save()', 'save("SAA", "location", "0", "0")',

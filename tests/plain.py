@@ -8,7 +8,7 @@ found. Status 0 if all is so, 1 if not."""
 import pathlib, re, sys
 
 ENTRY = 'ndushavire_plain'
-OWN = 'plain_table plain_lookup plain_vectors plain_questions plain_assignment plain_reading plain_looks plain_deciding plain_calling'.split()
+OWN = 'plain_table plain_lookup plain_vectors plain_questions plain_assignment plain_reading plain_looks plain_answering plain_deciding plain_calling'.split()
 # Numbers in bytes, blocks and the parts of them, one AVP and what a table of kinds says of it, the choices, the effect on one block, the writers.
 SHARED = {
     'octets': 'byte name::smaller number::be16 number::be32 run::zero_between',
@@ -25,6 +25,8 @@ SHARED = {
     'assignment': 'naming::meant_by',
     'rewrite': 'change_if',
     'pen': 'put_copy',
+    'envelope': 'front::put_start header::put_header last::put_failed',
+    'reply': 'front::put_server given::put_given',
     'refusals': 'early',
     'std': 'num::wrapping_add_u32',
 }
@@ -35,14 +37,8 @@ REACHED = {
     'vectors': 'choice::none mark::mark mark::mark_at mark::spend vector::confidentiality_key vector::integrity_key vector::part vector::private '
                'vector::rand_autn vector::read vector::xres',
     'requests': 'dialect identities::next_identity places::data_of places::given places::member_of places::value_of places::value_of_place walk::refuse',
-    'questions': '', 'assignment': 'naming::meant_by', 'deciding': '', 'calling': '',
+    'questions': '', 'assignment': 'naming::meant_by', 'answering': '', 'deciding': '', 'calling': '',
 }
-# The answer: where a crate of the plain engine's own writes it, it shares single writers; where none does, the quick engine's answer, which looks for the
-# Session-Id and the Proxy-Infos itself.
-ANSWERING = 'plain_answering'
-WRITERS = {'envelope': 'front::put_start header::put_header last::put_failed', 'reply': 'front::put_server given::put_given'}
-ANSWER = {'answering': 'answer'}
-
 # The effect on one block, below which alone the sum as the machine has its words, names by eights of bytes, and masks are.
 EFFECTS = {'rewrite::change_if', 'vectors::mark::spend'}
 QUICK = re.compile(r'octets::(sum::|name::(?!smaller$)|run::(mask|set_bits|set_past)$|number::le)')
@@ -125,19 +121,15 @@ class Code:
 def faults(files):
     """What is against the rule, as sentences. FILES are the code of all crates, by path."""
     code, wrong = Code(files), []
-    answers = ANSWERING in code.crates
-    known = set(OWN) | {ANSWERING} & code.crates
-    shared = {**SHARED, **(WRITERS if answers else ANSWER)}
-    allowed = {**REACHED, 'answering': ''} if answers else {**REACHED, 'requests': REACHED['requests'] + ' session'}
     own = [source for source in code.sources if source.crate.startswith('plain_')]
-    for name in sorted(known ^ {source.crate for source in own}):
-        wrong.append('%s is %s' % (name, 'no crate' if name in known else 'not known here'))
+    for name in sorted(set(OWN) ^ {source.crate for source in own}):
+        wrong.append('%s is %s' % (name, 'no crate' if name in OWN else 'not known here'))
     for source in own:
         for use in source.broad:
             wrong.append('%s uses more than one name: %s' % (source.path, use))
         for path in sorted(code.called(source, source.body)):
             crate, _, rest = path.partition('::')
-            if not crate.startswith('plain_') and (crate in code.crates or crate == 'std') and rest not in shared.get(crate, '').split():
+            if not crate.startswith('plain_') and (crate in code.crates or crate == 'std') and rest not in SHARED.get(crate, '').split():
                 wrong.append('%s names %s' % (source.path, path))
     entries = [name for name in code.functions if name.split('::')[-1] == ENTRY]
     if len(entries) != 1:
@@ -148,7 +140,7 @@ def faults(files):
     wrong += ['%s is reached through %s' % (path, besides[path]) for path in sorted(besides) if QUICK.match(path)]
     for path in sorted(through):
         crate, _, rest = path.partition('::')
-        if crate in allowed and path in code.functions and rest not in allowed[crate].split():
+        if crate in REACHED and path in code.functions and rest not in REACHED[crate].split():
             wrong.append('%s is reached through %s' % (path, through[path]))
     return wrong
 
@@ -200,10 +192,10 @@ def noticed(files):
         'names by eights below what is shared': into('crates/refusals/src/lib.rt', 'pub fn early(t: &[u8]) -> u16 { octets::name::same(t, t); 0 }'),
         'a trick below what is shared': into('crates/refusals/src/lib.rt', 'pub fn early(t: &[u8]) -> u16 { table::check(t, 0); 0 }'),
         'the quick call below the entry': {path: re.sub(r'\bplain_calling::call\b', 'calling::call', text) for path, text in files.items()},
+        'the quick answer': called('plain_deciding', '', 'answering::answer(t)'),
+        'the whole end of an answer': called('plain_answering', 'use envelope::last;', 'last::put_end(t, t, v)'),
+        'a mask below what is shared': into('crates/refusals/src/lib.rt', 'pub fn early(t: &[u8]) -> u16 { octets::run::set_past(t, 1); 0 }'),
     }
-    if at(ANSWERING) in files:
-        tried['the quick answer'] = called('plain_deciding', '', 'answering::answer(t)')
-        tried['the whole end of an answer'] = called(ANSWERING, 'use envelope::last;', 'last::put_end(t, t, v)')
     return [what for what, changed in tried.items() if not faults(changed)], len(tried)
 
 

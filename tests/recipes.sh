@@ -364,6 +364,11 @@ took 8
 isle 0
 taking 'A longer area'
 cmp "$here/alone" <(of_issue 7) >&2 && [ -s "$here/text" ] || fail 'ndushavire-take(1): the table is not cut out of the area'
+# ---- ndushavire-list(1): the sample of issue 7 goes to the desk, in a longer area, and comes back
+isle 0
+truncate -s +700 "$here/live/table"
+displays ndushavire-list.1 EXAMPLES | session 'ndushavire-list(1)' "$here"
+cmp "$here/desk/again" <(of_issue 7) >&2 && [ ! -e "$here/desk/lost" ] || fail "ndushavire-list(1): the desk has $(ls "$here/desk")"
 # In a longer area the scripts work as they do in one that is exact.
 ndushavire-maketable table "$here/households.txt" >"$here/live/table"
 truncate -s +700 "$here/live/table"

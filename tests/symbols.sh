@@ -47,6 +47,8 @@ int main(void) {
     wrong |= ndushavire_decide(request, 20, table, 512, request, 0, vectors, 0, answer, sizeof answer, 0, 0) != (uint64_t)12 << 48;
     wrong |= ndushavire_plain(request, 20, table, 512, request, 0, vectors, 0, answer, sizeof answer, 3588, 0) != (uint64_t)5 << 48;
     wrong |= ndushavire_plain(request, 20, table, 512, request, 0, vectors, 0, answer, sizeof answer, 0, 0) != (uint64_t)12 << 48;
+    wrong |= ndushavire_export(table, 512, request, 0, answer, sizeof answer) != (uint64_t)5 << 48;
+    wrong |= ndushavire_import(request, 20, table, 512, vectors, 0, answer, sizeof answer) != (uint64_t)5 << 48;
 #endif
 #if SH
     wrong |= ndushavire_sh_decide(request, 20, table, 512, request, 0, answer, sizeof answer, 3588) != (uint64_t)5 << 48;

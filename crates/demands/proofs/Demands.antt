@@ -17,7 +17,8 @@ use Rattle.diameter.specs.Message.{commandOf}
 use Rattle.rewrite.specs.Keeps.{alterable}
 use Rattle.calling.specs.Call.{Answer, Answered, Refused}
 use Rattle.calling.specs.Lent.{Lent, asking, holding, tableOnly, dialectIn}
-use Rattle.calling.specs.Serve.{SameCall, wrongSize, wrongLength, checkOf, trials, answeredBy, decision, serveTable, overArea, serve}
+use Rattle.refusals.specs.Early.{wrongSize, wrongLength}
+use Rattle.calling.specs.Serve.{SameCall, checkOf, trials, answeredBy, decision, serveTable, overArea, serve}
 use Rattle.calling.proofs.Areas.{served-in, served-length, served-rest, served-stays, serve-exact, alike-call, alike-table, check-in}
 use Rattle.ndushavire.specs.Word.{callWord}
 use Rattle.ndushavire.specs.Reads.{callNumber, callValue, callIn, Reads, ReadsCheck, ReadsMove, ReadsTake}
@@ -205,8 +206,8 @@ module _ (a : Lent) where
 pub demand-3 : (a : Lent) (longer : List ℕ) (l : Longer (a .terms) (a .request) longer) → Newer a longer l
 demand-3 = longer-newer
 
--- The kinds that are known are the same under every command, those of the header's faults too; every AVP of another kind is unknown, the Sh server's 700 and 703
--- among them.
+-- The kinds that are known are the same under every command, those of the header's faults too; every AVP of another kind is unknown, the Sh server's 700 and
+-- 703 among them.
 pub demand-3-kinds : (a : Lent) → a .terms .application ≡ cx → kindsOf (dialectIn a) ≡ kindsOfCx
 demand-3-kinds a = cx-kinds (dialectIn a)
 

@@ -15,7 +15,8 @@ use Rattle.requests.proofs.Insert.{stranger-kind, identity-known, features-know
 use Rattle.deciding.specs.Rules.{inForce}
 use Rattle.deciding.specs.Decide.{faulted, judgedBy, decideBy, decide}
 use Rattle.calling.specs.Lent.{Lent, asking}
-use Rattle.calling.specs.Serve.{checkOf, answered, answeredBy, decision, serveTable, checkValue}
+use Rattle.refusals.specs.Early.{checkValue}
+use Rattle.calling.specs.Serve.{checkOf, answered, answeredBy, decision, serveTable}
 use Rattle.calling.proofs.Kept.{taken}
 use Rattle.demands.specs.Call.{turnedAway}
 use Rattle.demands.specs.Insertion.{message, requestOf, Foreign, Quiet, Inserted, keep, FirstMarked, isFault, faultIn}
@@ -27,7 +28,7 @@ use Rattle.demands.proofs.Messages.{message-dialect, message-read, read
 use Rattle.demands.proofs.Rows.{inserted-same, foreign-proxies, foreign-some, readFrom, frontOther, frontJudged, placeBehind, long-fit, short-fit}
 use Rattle.demands.proofs.Rows.{unmarked-moved, marked-inserted, before-whole, front-moved, long-read, fault-moved, mark-judges, mark-failed}
 use Rattle.demands.proofs.Rows as rows
-pub use Rattle.demands.proofs.Rows.{quiet-foreign, none-before}
+use Rattle.demands.proofs.Rows.{quiet-foreign, none-before}
 
 -- the folds that pass over unknown kinds: the identities, which every command of Cx knows, and the copies
 foreign-identities : (dialect : Dialect) → (dialect .terms .application ≡ sh → ⊥) → {qs rs : List Piece} → Inserted (Foreign dialect) qs rs → (w : Walk)
@@ -177,14 +178,19 @@ module _ (head : List ℕ) (twenty : length head ≡ 20) (q : Piece) (qs rs : Li
       let f : turnedAway (asking x longer) ≡ false = turned head twenty q qs rs whole tail fours most x i ∙ away in
       fault-answered (asking x longer) 5001 markPlace (m .mark .avp)
       (mark-failed head twenty q qs rs whole tail fours most dialect (headerFault dialect head) m) (mark-read e) f
-      ∙ ap (blamingTable (asking x longer) 5001 (m .mark .avp)) (past-bytes 20 (q ∷ m .before) (before-whole head twenty q qs rs whole tail fours most dialect (headerFault dialect head) m))
+      ∙ ap (blamingTable (asking x longer) 5001 (m .mark .avp))
+      (past-bytes 20 (q ∷ m .before) (before-whole head twenty q qs rs whole tail fours most dialect (headerFault dialect head) m))
 
   long-decides : (t : List ℕ) (count : ℕ) (v : List ℕ) → decide (dialectOf (x .terms) longer) longer t count v
       ≡ judgedBy inForce dialect longer t count v
       (readFrom (headerFault dialect head) dialect headed (frontOther q (m .front)) (frontJudged dialect q (m .before)) (behind markPlace (m .mark ∷ m .after)))
   unfolding decideBy readBody
   long-decides t count v =
-      rw (message-dialect head twenty (bytesOf (q ∷ rs) ++ tail) (x .terms), message-read dialect head twenty (bytesOf (q ∷ rs) ++ tail), long-read head twenty q qs rs whole tail fours most dialect (headerFault dialect head) m)
+      rw (
+        message-dialect head twenty (bytesOf (q ∷ rs) ++ tail) (x .terms),
+        message-read dialect head twenty (bytesOf (q ∷ rs) ++ tail),
+        long-read head twenty q qs rs whole tail fours most dialect (headerFault dialect head) m,
+      )
 
   pub marked-kept : (serveTable (asking x longer) .table ≡ x .table) × (serveTable (asking x longer) .vectors ≡ x .vectors)
   unfolding answeredBy faultIn
@@ -202,6 +208,7 @@ module _ (head : List ℕ) (twenty : length head ≡ 20) (q : Piece) (qs rs : Li
       go false e true f =
           rw (answers e, long-decides (x .table) count (x .vectors))
           (fault-keeps (headerFault dialect head) dialect headed (frontOther q (m .front))
-          (behind markPlace (m .mark ∷ m .after)) (front-moved head twenty q qs rs whole tail fours most dialect (headerFault dialect head) m) f longer (x .table)
+          (behind markPlace (m .mark ∷ m .after)) (front-moved head twenty q qs rs whole tail fours most dialect (headerFault dialect head) m) f longer
+          (x .table)
           count (x .vectors))
       go false e false f = rw (answers e, mark-decides f (x .table) count (x .vectors)) (refl, refl)

@@ -1,4 +1,5 @@
--- What reading makes of a request into whose row AVPs of unknown kinds were put after its first AVP, whatever its dialect and its header's fault: at each server.
+-- What reading makes of a request into whose row AVPs of unknown kinds were put after its first AVP, whatever its dialect and its header's fault: at each
+-- server.
 use Rattle.octets.specs.Standard.{ℕ, _+_, _%_, _≤_, _<_, List, [], _∷_, _++_, append-assoc, some, Bool, true, false, not, cond, _||_, true≢false, _≡_}
 use Rattle.octets.specs.Standard.{refl, sym, ap, _∙_, arith, zero-add, length, drop, length-append, eqb, lt-ltb}
 use Rattle.pen.specs.Bytes.{ifThere}
@@ -16,7 +17,7 @@ use Rattle.requests.specs.Request.{firstOther, missing, complete, readWalk}
 use Rattle.requests.proofs.Insert.{stranger-kind, proxy-known, judge-marked, andThen, judge-glue, past}
 use Rattle.failed.specs.Failing.{failedBy}
 use Rattle.failed.proofs.Fronts.{failed-piece, failed-whole}
-use Rattle.answering.specs.Answer.{proxy, proxies}
+use Rattle.envelope.specs.End.{proxy, proxies}
 use Rattle.demands.specs.Insertion.{message, requestOf, Foreign, isMarked, Quiet, Inserted, ending, keep, put, FirstMarked, isFault, faultBy}
 use Rattle.demands.specs.Insertion.{putBefore}
 use Rattle.demands.proofs.Moved.{Moved, faults, same, moved-as, moved-by, judge-amid, past-later, past-drop, failed-there}

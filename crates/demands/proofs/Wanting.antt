@@ -152,5 +152,6 @@ called-says a e =
 pub called-holds : (a : Lent) → Called a → Seen → listCalled (a .terms) (a .request) ≡ true
 unfolding listCalled callsList
 called-holds a c seen =
-    let p : callsList (c .one) ≡ true = rw (eq-eqb _ _ (c .kind), taken-passes (dialectIn a) (c .one) (c .kind) (of-cx (dialectIn a) (a .request) (c .header)) seen (c .passes seen)) in
+    let t = taken-passes (dialectIn a) (c .one) (c .kind) (of-cx (dialectIn a) (a .request) (c .header)) seen (c .passes seen) in
+    let p : callsList (c .one) ≡ true = rw (eq-eqb _ _ (c .kind), t) in
     rw (eq-eqb _ _ (c .header), some-holds callsList (behindFirst (bodyOf (a .request))) (c .one) (c .among) p)

@@ -112,7 +112,8 @@ fn put_body(
     a + put_rest(&mut out[a..], req, list, t, file, v, c)
 }
 
-// "Header: version 1, flags P as received and E exactly for 3xxx, no others, length its own, the rest as received." It is written last, since its length is known then.
+// "Header: version 1, flags P as received and E exactly for 3xxx, no others, length its own, the rest as received." It is written last, since its
+// length is known then.
 pub fn answer(
     out: &mut [u8],
     req: &[u8],

@@ -238,7 +238,8 @@ pub fn answer_fault(
 ) -> Said
     requires { ⌜ Passed (now req) (now out) × (now list ≡ placesOf (now req)) × SoundTable (now t) (b .ground .count) × SoundVectors (now v)
         × (b .ground .wanted ≡ wantedOf (b .ground .dialect .terms) (now req))
-        × (decide (b .ground .dialect) (now req) (now t) (b .ground .count) (now v) ≡ faulted (now t) (now v) (b .fault)) × (b .fault .place ≤ 16384) ⌝ }
+        × (decide (b .ground .dialect) (now req) (now t) (b .ground .count) (now v) ≡ faulted (now t) (now v) (b .fault))
+        × (b .fault .place ≤ 16384) ⌝ }
     ensures { λ r. ⌜ Says (b .ground .dialect) (now (req .entry)) (now (t .entry)) (b .ground .count) (now (file .entry)) (now (v .entry))
         (now (out .entry)) (now (out .exit)) r
         × (now (t .entry) ≡ decide (b .ground .dialect) (now (req .entry)) (now (t .entry)) (b .ground .count) (now (v .entry)) .table)

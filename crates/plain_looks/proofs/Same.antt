@@ -1,19 +1,19 @@
 -- Over the list of a request these are what its walk has.
-use Rattle.octets.specs.Standard.{ℕ, zero, suc, _-_, _≤_, _<_, _≡_, refl, sym, ap, _∙_, List, [], _∷_, _++_, Option, none, some, Bool, true, false, not, _&&_, _||_}
-use Rattle.octets.specs.Standard.{arith, length, getD, drop, eqb, ne-eqb}
+use Rattle.octets.specs.Standard.{ℕ, suc, _-_, _≤_, _≡_, refl, ap, _∙_, List, [], none, some, Bool}
+use Rattle.octets.specs.Standard.{arith, length, getD, drop, ne-eqb}
 use Rattle.diameter.specs.Message.{bodyOf}
 use Rattle.diameter.specs.Walk.{Walk, ended, faulty, avp, someAvp, behindFirst}
-use Rattle.envelope.specs.End.{proxy, proxies}
+use Rattle.envelope.specs.End.{proxies}
 use Rattle.reading.specs.Features.{asksBeyond, callsList}
 use Rattle.reading.specs.Places.{seenOf}
 use Rattle.reading.specs.Rules.{Seen}
 use Rattle.reading.specs.declared.Terms.{Terms}
 use Rattle.requests.specs.Features.{beyondSet, listCalled, wantedOf}
-use Rattle.requests.specs.Request.{dialectOf, headerFault, sessionOf}
+use Rattle.requests.specs.Request.{sessionOf}
 use Rattle.plain_reading.specs.Listed.{placesOf}
-use Rattle.plain_reading.proofs.Each.{Cut, cut, cut-none}
+use Rattle.plain_reading.proofs.Each.{cut, cut-none}
 use Rattle.plain_reading.proofs.Listing.{listed, listed-at}
-use Rattle.plain_looks.specs.Looks.{sessionIn, whole, someFrom, callsAt, asksAt, calledBy, asksBy, wantedBy, proxyBy, proxiesFrom, proxiesBy}
+use Rattle.plain_looks.specs.Looks.{sessionIn, whole, someFrom, callsAt, asksAt, calledBy, asksBy, wantedBy, proxiesFrom, proxiesBy}
 
 listed-all : (req : List ℕ) → seenOf req (placesOf req) ≡ listed (bodyOf req)
 unfolding placesOf
@@ -52,7 +52,9 @@ from-all avps p = let n : length avps - 0 ≡ length avps = omega arith in rw n
 
 asks-walk : (set : ℕ) (w : Walk) → asksBy set (listed w) ≡ someAvp (asksBeyond set) w
 unfolding asksAt
-asks-walk set w = from-all (listed w) (asksAt set (listed w)) ∙ some-walk (listed w) (asksAt set (listed w)) (asksBeyond set) 0 (λ i h. refl) w 0 (omega arith) refl
+asks-walk set w =
+    from-all (listed w) (asksAt set (listed w))
+    ∙ some-walk (listed w) (asksAt set (listed w)) (asksBeyond set) 0 (λ i h. refl) w 0 (omega arith) refl
 
 calls-later : (avps : Seen) (i : ℕ) → 1 ≤ i → callsAt avps i ≡ whole callsList (getD avps i none)
 unfolding callsAt

@@ -1,6 +1,6 @@
 -- From what the code has to what the definitions say: Session-Id, one AVP of the list, the loops over it.
-use Rattle.octets.specs.Standard.{ℕ, zero, suc, _+_, _-_, _%_, _≤_, _<_, add-one, _≡_, refl, sym, ap, _∙_, List, [], _∷_, _++_, none, some, Bool, true, false, not}
-use Rattle.octets.specs.Standard.{_&&_, _||_, and-assoc, and-false, arith, length, length-append, length-take, length-drop, getD, drop, eqb, midOf, putMid}
+use Rattle.octets.specs.Standard.{ℕ, suc, _+_, _-_, _%_, _≤_, _<_, add-one, _≡_, refl, sym, ap, _∙_, List, [], _∷_, _++_, none, Bool, true, false, not}
+use Rattle.octets.specs.Standard.{_&&_, and-assoc, and-false, arith, length, length-append, length-take, length-drop, getD, drop, eqb, midOf, putMid}
 use Rattle.octets.specs.Run.{over, Wrote}
 use Rattle.octets.proofs.Writes.{Going, going-more, going-end, going-none}
 use Rattle.diameter.specs.Reader.{readOf, ownOf}

@@ -1,8 +1,7 @@
 -- The plain reading is the walk's.
-use Rattle.octets.specs.Standard.{ℕ, zero, suc, _+_, _-_, _≤_, _<_, _≡_, refl, sym, ap, _∙_, List, [], _∷_, map, Option, none, some, Bool, true, false, cond, not}
-use Rattle.octets.specs.Standard.{arith, length, getD, drop, eqb, ne-eqb, ltb, lt-ltb, le-ltb}
+use Rattle.octets.specs.Standard.{ℕ, suc, _+_, _-_, _≤_, _<_, _≡_, refl, ap, _∙_, List, [], Option, none, some, Bool, true, false, cond, not}
+use Rattle.octets.specs.Standard.{arith, length, getD, drop, eqb, ne-eqb, lt-ltb, le-ltb}
 use Rattle.diameter.specs.Avp.{padded}
-use Rattle.diameter.specs.AvpAt.{partAt}
 use Rattle.diameter.specs.Message.{bodyOf}
 use Rattle.diameter.specs.Walk.{Walk, ended, faulty, avp}
 use Rattle.reading.specs.declared.Dialect.{Dialect}
@@ -11,8 +10,7 @@ use Rattle.reading.specs.Places.{seenOf}
 use Rattle.reading.specs.Rules.{Seen}
 use Rattle.reading.specs.Verdicts.{lackOf}
 use Rattle.requests.specs.Judged.{Judged, bad, fine, nothing, judge}
-use Rattle.requests.specs.Request.{firstOther, complete, readWalk, readIn}
-use Rattle.plain_reading.specs.declared.Broken.{Broken}
+use Rattle.requests.specs.Request.{complete, readWalk, readIn}
 use Rattle.plain_reading.specs.declared.Letter.{Letter}
 use Rattle.plain_reading.specs.declared.Letter.the-variants.{A, B}
 use Rattle.plain_reading.specs.Broken.{isNamed, breaksWhole, breaksOf, breaks}
@@ -22,7 +20,7 @@ use Rattle.plain_reading.specs.Plain.{blamed, taken, afterPasses, plainB
 use Rattle.plain_reading.proofs.Each.{Cut, cut, cut-none}
 use Rattle.plain_reading.proofs.Listing.{listed, listed-at}
 use Rattle.plain_reading.proofs.Picking.{found, firstLetter, pickedFrom, pick-turn, pick-end}
-use Rattle.plain_reading.proofs.Ruling.{onChosen, letter-here, rule-letter}
+use Rattle.plain_reading.proofs.Ruling.{onChosen, rule-letter}
 use Rattle.plain_reading.proofs.Taking.{Came, came-none, came-more, taken-none, taken-named, taken-skipped, sole-came}
 
 module _ (d : Dialect) (places : List ℕ) (avps : Seen) where

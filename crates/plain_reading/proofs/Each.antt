@@ -1,6 +1,7 @@
 -- A list made of a function of the numbers below a bound; what stands at a number of a list's rest.
-use Rattle.octets.specs.Standard.{ℕ, zero, suc, _+_, _≤_, _<_, _≡_, refl, sym, ap, _∙_, List, [], _∷_, _++_, Bool, true, false, arith, length, getD, set, drop}
-use Rattle.octets.specs.Standard.{length-append, length-set, List·getD-append, getD-append-add, getD-set-same, getD-set-other, ext-getD, add-zero}
+use Rattle.octets.specs.Standard.{ℕ, zero, suc, _+_, _≤_, _<_, _≡_, refl, sym, ap, _∙_, List, [], _∷_, _++_, Bool, true, false, arith, length, getD, set}
+use Rattle.octets.specs.Standard.{drop}
+use Rattle.octets.specs.Standard.{length-append, length-set, List·getD-append, getD-append-add, getD-set-same, getD-set-other, ext-getD}
 use Rattle.octets.specs.Standard.{drop-cons, drop-of-length-le, ltb, ltb-true, ltb-false, eqb, eqb-true, eqb-false}
 use Rattle.plain_reading.specs.Plain.{eachBelow}
 

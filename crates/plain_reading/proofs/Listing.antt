@@ -1,9 +1,8 @@
 -- The list of places: at each stands the walk's AVP; there are at most 2,046.
-use Rattle.octets.specs.Standard.{ℕ, zero, suc, _+_, _-_, _*_, _≤_, _<_, _≡_, refl, sym, _∙_, List, [], _∷_, map, none, some, Bool, true, false, arith}
+use Rattle.octets.specs.Standard.{ℕ, zero, suc, _+_, _-_, _*_, _≤_, _<_, _≡_, refl, List, [], _∷_, map, none, some, Bool, true, false, arith}
 use Rattle.octets.specs.Standard.{length, drop, ltb, ltb-true, ltb-false}
 use Rattle.diameter.specs.Avp.{padded, sound}
 use Rattle.diameter.specs.AvpAt.{avpOf, partAt}
-use Rattle.diameter.specs.Message.{bodyOf}
 use Rattle.diameter.specs.Reader.{avpHere, readOf, ownOf}
 use Rattle.diameter.specs.Walk.{Walk, ended, faulty, avp, walk}
 use Rattle.diameter.specs.declared.Avp.{Avp}

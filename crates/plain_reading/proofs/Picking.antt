@@ -1,5 +1,5 @@
 -- The fault that comes first, AVP by AVP: the first letter that the AVP breaks, or else what the rest comes to.
-use Rattle.octets.specs.Standard.{ℕ, zero, suc, _≤_, _<_, _≡_, refl, _∙_, List, [], _∷_, Option, none, some, Bool, true, false, cond, arith, ltb}
+use Rattle.octets.specs.Standard.{ℕ, zero, suc, _≤_, _<_, _≡_, refl, List, [], _∷_, Option, none, some, Bool, true, false, cond, arith, ltb}
 use Rattle.octets.specs.Standard.{lt-ltb, le-ltb}
 use Rattle.reading.specs.declared.Dialect.{Dialect}
 use Rattle.reading.specs.Rules.{Seen}

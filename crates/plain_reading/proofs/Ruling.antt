@@ -1,13 +1,12 @@
 -- What the walk makes of a whole AVP is what the first letter that it breaks makes of it.
-use Rattle.octets.specs.Standard.{ℕ, _≡_, refl, _∙_, List, Option, none, some, Bool, true, false, cond, not, _&&_, set, getD, eqb, leb, length, _+_}
+use Rattle.octets.specs.Standard.{ℕ, _≡_, refl, List, Option, none, some, Bool, true, false, cond, not, _&&_, set, getD, eqb, leb, length, _+_}
 use Rattle.diameter.specs.Avp.{avpFlags, avpHead, dataOf, valueOf, reserved, marked}
 use Rattle.diameter.specs.AvpAt.{present}
 use Rattle.diameter.specs.Walk.{walk}
 use Rattle.reading.specs.declared.Content.{Content}
 use Rattle.reading.specs.declared.Content.the-variants.{Free, Number, Sized, Members}
 use Rattle.reading.specs.declared.Dialect.{Dialect}
-use Rattle.reading.specs.declared.Ruled.{Ruled}
-use Rattle.reading.specs.declared.Ruled.the-variants.{Taken, Skipped, Fault}
+use Rattle.reading.specs.declared.Ruled.the-variants.{Fault}
 use Rattle.reading.specs.declared.Use.{Use}
 use Rattle.reading.specs.declared.Use.the-variants.{Unknown, Unnamed, Needed, Optional, Repeated, Several}
 use Rattle.reading.specs.Contents.{plainFault, numberFault}
@@ -79,15 +78,15 @@ module _ (seen : Seen) (a : List ℕ) (at : ℕ) (next : Seen → Judged) where
   use-chosen Several false e g h n m flags f = content-chosen g h n
 
   -- "too often" is asked of the kinds that come once
-  sole-alike : (u : Use) (c g h n m : Bool) (flags : ℕ) (x y : Bool) → (isSole u ≡ true → x ≡ y)
+  sole-alike : (u : Use) (c g h n : Bool) (flags : ℕ) (x y : Bool) → (isSole u ≡ true → x ≡ y)
       → cond c (Fault 3009) (ofUse u x flags (cond g 5014 (cond h 5004 (cond n 5009 0))))
       ≡ cond c (Fault 3009) (ofUse u y flags (cond g 5014 (cond h 5004 (cond n 5009 0))))
-  sole-alike Unknown c g h n m flags x y e = refl
-  sole-alike Unnamed c g h n m flags x y e = refl
-  sole-alike Needed c g h n m flags x y e = rw (e refl)
-  sole-alike Optional c g h n m flags x y e = rw (e refl)
-  sole-alike Repeated c g h n m flags x y e = refl
-  sole-alike Several c g h n m flags x y e = refl
+  sole-alike Unknown c g h n flags x y e = refl
+  sole-alike Unnamed c g h n flags x y e = refl
+  sole-alike Needed c g h n flags x y e = rw (e refl)
+  sole-alike Optional c g h n flags x y e = rw (e refl)
+  sole-alike Repeated c g h n flags x y e = refl
+  sole-alike Several c g h n flags x y e = refl
 
   module _ (d : Dialect) (avps : Seen) (i : ℕ) (here : getD avps i none ≡ some a) where
     abbrev pub chosenHere : Bool → Option Letter
@@ -106,7 +105,7 @@ module _ (seen : Seen) (a : List ℕ) (at : ℕ) (next : Seen → Judged) where
     rule-letter b e =
         rw (letter-here, b, content-letters d (rowOf (kindOf a) .content) a)
         (rw (sole-alike (useOf d a) (not (eqb (reserved (avpFlags a)) 0)) (otherLength (rowOf (kindOf a) .content) a)
-        (badContent d (rowOf (kindOf a) .content) a) (severalIn d (rowOf (kindOf a) .content) a) (marked (avpFlags a)) (avpFlags a)
+        (badContent d (rowOf (kindOf a) .content) a) (severalIn d (rowOf (kindOf a) .content) a) (avpFlags a)
         (present (getD seen (kindOf a) none)) (came avps (kindOf a) i) e)
         (use-chosen (useOf d a) (not (eqb (reserved (avpFlags a)) 0)) (came avps (kindOf a) i) (otherLength (rowOf (kindOf a) .content) a)
         (badContent d (rowOf (kindOf a) .content) a) (severalIn d (rowOf (kindOf a) .content) a) (marked (avpFlags a)) (avpFlags a) refl))

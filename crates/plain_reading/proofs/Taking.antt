@@ -1,5 +1,5 @@
 -- What the walk has seen is, for each kind that the command names, its last AVP in the list so far.
-use Rattle.octets.specs.Standard.{ℕ, zero, suc, _+_, _≤_, _<_, _≡_, refl, sym, _∙_, List, [], _∷_, Option, none, some, Bool, true, false, cond, _||_, arith}
+use Rattle.octets.specs.Standard.{ℕ, suc, _+_, _<_, _≡_, refl, sym, _∙_, List, [], _∷_, Option, none, some, Bool, true, false, cond, _||_, arith}
 use Rattle.octets.specs.Standard.{length, getD, set, replicate, length-replicate, getD-replicate, ext-getD, or-true, or-false, eqb, eqb-true, eqb-false}
 use Rattle.octets.specs.Standard.{eq-eqb, ne-eqb}
 use Rattle.diameter.specs.AvpAt.{present}

@@ -1,6 +1,6 @@
 -- From what the code has to what the definitions say: the list, one AVP of it, the loops over it.
 use Rattle.octets.specs.Standard.{ℕ, zero, suc, _+_, _-_, _*_, _/_, _%_, _≤_, _<_, add-one, _≡_, refl, sym, ap, _∙_, List, [], _∷_, _++_, map, none, some}
-use Rattle.octets.specs.Standard.{append-assoc, append-nil, Bool, true, false, cond, not, _&&_, _||_, arith, length, getD, take, drop, set, take-length, eqb, ltb}
+use Rattle.octets.specs.Standard.{append-assoc, append-nil, Bool, true, false, cond, not, _&&_, _||_, arith, length, getD, take, drop, set, take-length, eqb}
 use Rattle.octets.specs.Standard.{leb, eq-eqb, ne-eqb, lt-ltb, le-ltb}
 use lib.Seq.{take-suc-set}
 use Rattle.octets.specs.Number.{be32At}
@@ -34,7 +34,6 @@ use Rattle.plain_reading.specs.Broken.{isNamed, isSole, isA, kindAt, cam
 use Rattle.plain_reading.specs.Listed.{placesIn, placesOf, most}
 use Rattle.plain_reading.specs.Passes.{firstBy, passOf, earlier, letters, pickFrom, picked}
 use Rattle.plain_reading.specs.Plain.{blamed, lastOf, takenOf, eachBelow, taken, afterPasses, plainBody, plainRead}
-use Rattle.plain_reading.proofs.Each.{each-length}
 use Rattle.plain_reading.proofs.Listing.{places-avp, next-far}
 use Rattle.diameter.specs.declared.Read.the-variants as read
 use Rattle.requests.specs.declared.Walked.the-variants as walked
@@ -240,7 +239,8 @@ module _ (s list : List ℕ) (k i : ℕ) (whole : lastOf (seenOf s list) k (leng
     pub last-other : (m ≡ k → ⊥) → lastOf (seenOf s list) k (length list) ≡ lastOf (seenOf s list) k (i - 1)
     last-other z = last-turn ∙ rw (ne-eqb m k z)
 
-module _ (d : Dialect) (s list : List ℕ) (k n place : ℕ) (row : Kind) (er : row ≡ rowOf k) (u : Use) (eu : u ≡ useIn d row) (x : Bool) (ex : x ≡ isNamed u) where
+module _ (d : Dialect) (s list : List ℕ) (k n place : ℕ) (row : Kind) (er : row ≡ rowOf k) (u : Use) (eu : u ≡ useIn d row)
+    (x : Bool) (ex : x ≡ isNamed u) where
   pub place-taken : x ≡ true → partAt s place ≡ lastOf (seenOf s list) k n → partAt s place ≡ takenOf d (seenOf s list) n k
   unfolding takenOf
   place-taken t e = e ∙ rw (← er, ← eu, ← ex, t)

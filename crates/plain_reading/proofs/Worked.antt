@@ -55,8 +55,8 @@ pub record Worked : Type 0 where
   pub missing-then : read (header ++ session) ≡ bad (lackOf 2)
 
 pub worked : Worked
-unfolding plainRead plainBody afterPasses placesOf placesIn picked pickFrom letters earlier firstBy breaks breaksWhole came kindAt lastOf takenOf taken eachBelow
-    headerFault missing missingFrom complete walk walkFrom sound avpOf headOf vendorOf valueOf be24At be32At padded kindBy kindFrom known rowOf useIn
+unfolding plainRead plainBody afterPasses placesOf placesIn picked pickFrom letters earlier firstBy breaks breaksWhole came kindAt lastOf takenOf taken
+    eachBelow headerFault missing missingFrom complete walk walkFrom sound avpOf headOf vendorOf valueOf be24At be32At padded kindBy kindFrom known rowOf useIn
 worked = record {
   none = refl;
   letters-in-order = refl;

@@ -1,4 +1,4 @@
-// Reading without cleverness: the places of all AVPs are listed, each rule of document 01 is tried in a pass of its own, and the fault that comes first decides.
+// Reading without cleverness: every AVP's place is listed, each rule of document 01 is tried in a pass of its own, and the fault that comes first decides.
 use diameter::Avp;
 use diameter::Read;
 use diameter::codes;
@@ -48,6 +48,30 @@ pub struct Broken {
     pub letter: Letter,
 }
 
+// "Header, in order: version not 1, B5011; E bit set, B3008; command not 300 to 302, B3001; application not 16777216, B3007." 303 joined later.
+pub fn header_fault(req: &[u8], d: Dialect) -> u32
+    requires { ⌜ 20 ≤ length (now req) ⌝ }
+    ensures { λ r. ⌜ r ≡ headerFault d (now (req .entry)) ⌝ }
+{
+    let terms = d.terms;
+    let spoken = (terms.application == codes::CX)
+        & (reading::UAR <= d.command)
+        & (d.command <= reading::MAR);
+    if req[message::VERSION_AT] != message::VERSION {
+        return base::UNSUPPORTED_VERSION;
+    }
+    if req[message::FLAGS_AT] / message::E_BIT % 2 == 1 {
+        return base::INVALID_HDR_BITS;
+    }
+    if !spoken {
+        return base::COMMAND_UNSUPPORTED;
+    }
+    if number::be32(req, message::APPLICATION_AT) != terms.application {
+        return base::APPLICATION_UNSUPPORTED;
+    }
+    0
+}
+
 // The list: every AVP's place, up to the first whose length is faulty. Answers how many there are.
 pub fn list(req: &[u8], places: &mut [u16]) -> usize
     requires { ⌜ (length (now req) ≤ 16384) × (length (now places) ≡ most) ⌝ }
@@ -66,13 +90,14 @@ pub fn list(req: &[u8], places: &mut [u16]) -> usize
     n
 }
 
-// The place of a number in the list.
+// A place, as wide as the machine counts.
 fn wide(place: u16) -> usize
     ensures { λ r. ⌜ r ≡ place ⌝ }
 {
     place as usize
 }
 
+// The place of a number in the list.
 pub fn place_at(list: &[u16], i: usize) -> usize
     requires { ⌜ i < length (now list) ⌝ }
     ensures { λ r. ⌜ r ≡ getD (now (list .entry)) i 0 ⌝ }
@@ -213,6 +238,7 @@ fn breaks_whole(req: &[u8], d: Dialect, list: &[u16], i: usize, a: Avp, letter: 
     let content = row.content;
     let u = kinds::use_in(d, row);
     match letter {
+        // (a) is kept by a whole AVP.
         Letter::A => false,
         // (b) "the first AVP is no Session-Id: B5005 for Session-Id"
         Letter::B => (i == 0) & (k != kinds::SESSION_ID),
@@ -231,7 +257,8 @@ fn breaks_whole(req: &[u8], d: Dialect, list: &[u16], i: usize, a: Avp, letter: 
     }
 }
 
-// (a) "length under 8, or under 12 with V, or past the end, or too few bytes left for the header: a length fault, B5014". Nothing else is asked of such an AVP.
+// (a) "length under 8, or under 12 with V, or past the end, or too few bytes left for the header: a length fault, B5014". Such an AVP is asked nothing
+// else.
 fn only_length(letter: Letter) -> bool
     ensures { λ r. ⌜ r ≡ isA letter ⌝ }
 {
@@ -293,14 +320,14 @@ fn or_earlier(x: Broken, req: &[u8], d: Dialect, list: &[u16], letter: Letter) -
 fn first_fault(req: &[u8], d: Dialect, list: &[u16]) -> Broken
     ensures { λ r. ⌜ r ≡ picked d (seenOf (now (req .entry)) (now (list .entry))) ⌝ }
 {
-    let a = pass(req, d, list, Letter::A);
-    let b = or_earlier(a, req, d, list, Letter::B);
-    let c = or_earlier(b, req, d, list, Letter::C);
-    let f = or_earlier(c, req, d, list, Letter::D);
-    let g = or_earlier(f, req, d, list, Letter::F);
-    let h = or_earlier(g, req, d, list, Letter::G);
-    let n = or_earlier(h, req, d, list, Letter::H);
-    or_earlier(n, req, d, list, Letter::Newer)
+    let first = pass(req, d, list, Letter::A);
+    let first = or_earlier(first, req, d, list, Letter::B);
+    let first = or_earlier(first, req, d, list, Letter::C);
+    let first = or_earlier(first, req, d, list, Letter::D);
+    let first = or_earlier(first, req, d, list, Letter::F);
+    let first = or_earlier(first, req, d, list, Letter::G);
+    let first = or_earlier(first, req, d, list, Letter::H);
+    or_earlier(first, req, d, list, Letter::Newer)
 }
 
 // What a rule's fault comes to.
@@ -386,30 +413,6 @@ fn read_body(req: &[u8], d: Dialect, list: &[u16], places: &mut [usize; kinds::K
         return walk::refuse(base::MISSING_AVP, 0, k);
     }
     Walked::Read
-}
-
-// "Header, in order: version not 1, B5011; E bit set, B3008; command not 300 to 302, B3001; application not 16777216, B3007." 303 joined later.
-pub fn header_fault(req: &[u8], d: Dialect) -> u32
-    requires { ⌜ 20 ≤ length (now req) ⌝ }
-    ensures { λ r. ⌜ r ≡ headerFault d (now (req .entry)) ⌝ }
-{
-    let terms = d.terms;
-    let spoken = (terms.application == codes::CX)
-        & (reading::UAR <= d.command)
-        & (d.command <= reading::MAR);
-    if req[message::VERSION_AT] != message::VERSION {
-        return base::UNSUPPORTED_VERSION;
-    }
-    if req[message::FLAGS_AT] / message::E_BIT % 2 == 1 {
-        return base::INVALID_HDR_BITS;
-    }
-    if !spoken {
-        return base::COMMAND_UNSUPPORTED;
-    }
-    if number::be32(req, message::APPLICATION_AT) != terms.application {
-        return base::APPLICATION_UNSUPPORTED;
-    }
-    0
 }
 
 // A request read by its list: the first fault, or its AVPs, whose places are left in what is lent.

@@ -22,7 +22,8 @@ use Rattle.sh.specs.Replies.{Tells, Replies}
 use Rattle.sh.specs.declared.telling.Telling.{Telling}
 
 -- 702 of a record, whose numbers and name were read.
-module _ (r : References) (b : List ℕ) (rec : Record) (p : Bool) (name : List ℕ) (er : rec ≡ recordOf b) (ep : p ≡ pending (rec .bits)) (en : name ≡ serverOf b) where
+module _ (r : References) (b : List ℕ) (rec : Record) (p : Bool) (name : List ℕ) (er : rec ≡ recordOf b) (ep : p ≡ pending (rec .bits))
+    (en : name ≡ serverOf b) where
   pub record-room : {m : ℕ} → length (recordBytes r b) ≤ m → length (userDataBytes r (rec .state) p name) ≤ m
   unfolding recordBytes recordOf
   record-room h = rw (ep, er, en) h

@@ -100,8 +100,8 @@ pub sh-demand-2 : (x : Lent) (count : ℕ) → checkArea (x .table) (length (x .
 unfolding answered
 sh-demand-2 x count s e = let a = answered-is x count s e in (rw a, rw a)
 
--- WHAT IT SAYS. A request that was read, over a sound table: the answer is X5001 exactly when no record has the identity asked about; X5100 exactly when one has
--- and some Data-Reference is neither 11 nor 12; else B2001, and its 702, read back, says the stored server name and the state of the record with that identity.
+-- WHAT IT SAYS. A request that was read, over a sound table: the answer is X5001 exactly when no record has the identity asked about; X5100 exactly when one
+-- has and some Data-Reference is neither 11 nor 12; else B2001, and its 702, read back, says the stored server name and the state of the record with that identity.
 module _ (x : Lent) (count : ℕ) (sound : checkArea (x .table) (length (x .profile)) ≡ Sound count) (seen : Seen)
     (read : readSh (dialectIn x) (x .request) ≡ fine seen) where
   counted : toldOf x count .verdict .result ≡ resultOf x
@@ -126,8 +126,8 @@ module _ (x : Lent) (count : ℕ) (sound : checkArea (x .table) (length (x .prof
   pub sh-says-only : resultOf x ≡ Base 2001 → Known x count (identityOf seen) false
   sh-says-only e = known-only x count sound seen read (counted ∙ e)
 
--- THE NEIGHBOUR'S LINE of a call stands in `sh_neighbour`; it rests on this: tables that show the same of the identity asked about get the same answer, whatever
--- else they hold.
+-- THE NEIGHBOUR'S LINE of a call stands in `sh_neighbour`; it rests on this: tables that show the same of the identity asked about get the same answer,
+-- whatever else they hold.
 pub sh-neighbours-line : (req : List ℕ) (peer : ℕ) (area file o other foreign p : List ℕ) (count many : ℕ)
     → SameSight req peer (tableIn area) (tableIn other) count many
     → (answerOf (lent req area file o peer) count ≡ answerOf (lent req other foreign p peer) many)
@@ -148,15 +148,15 @@ pub sh-features : (x : Lent) (seen : Seen) (a : List ℕ) → kindOf a ≡ suppo
 unfolding rule ruleBy rowOf known useIn
 sh-features x seen a k r = rw (k, r)
 
--- "THE ONE PUBLIC-IDENTITY THAT 700 MUST HOLD": the 700 of a request that was read holds a 601 of vendor 10415 and nothing else, and the identity asked about is
--- the data of that 601.
+-- "THE ONE PUBLIC-IDENTITY THAT 700 MUST HOLD": the 700 of a request that was read holds a 601 of vendor 10415 and nothing else, and the identity asked about
+-- is the data of that 601.
 pub sh-identity : (x : Lent) (seen : Seen) → readSh (dialectIn x) (x .request) ≡ fine seen → Asks 601 userIdentity seen
 sh-identity x seen = read-identity (dialectIn x) (x .request) seen
 
 -- DEMAND 3, over this list, so that 601, 602 and all others of the Cx server's are among the unknown kinds here. Let `longer` be a request with AVPs of unknown
--- kinds put in after its first, so that it stays within 16,384 bytes. A call with `longer` comes to what it comes to with the request, but for the place of an AVP
--- at fault, and leaves the same buffer; but if one of those put in is marked M, it is answered by B5001 with the first such in Failed-AVP, and its place, unless
--- the call is refused or the header or an AVP before that one breaks a reading rule.
+-- kinds put in after its first, so that it stays within 16,384 bytes. A call with `longer` comes to what it comes to with the request, but for the place of an
+-- AVP at fault, and leaves the same buffer; but if one of those put in is marked M, it is answered by B5001 with the first such in Failed-AVP, and its place,
+-- unless the call is refused or the header or an AVP before that one breaks a reading rule.
 pub sh-demand-3 : (x : Lent) (longer : List ℕ) (l : Longer (termsIn x) (x .request) longer) → Newer x longer l
 sh-demand-3 = longer-newer
 

@@ -28,8 +28,8 @@ use Rattle.ndushavire_sh.specs.Serve.{trialsOf, refused, toldOf, answered, serv
 use Rattle.demands.specs.Insertion.{message, requestOf, Foreign, Quiet, Inserted, keep, FirstMarked, faultBy, putBefore, later, placeNow, behindRow}
 use Rattle.demands.proofs.Messages.{message-dialect, message-fault-by, message-flags, message-rest, message-body, readBodyBy, Fit, size-right, length-right}
 use Rattle.demands.proofs.Moved.{Moved, faults, same, past-bytes}
-use Rattle.demands.proofs.Rows.{foreign-proxies, foreign-some, quiet-foreign, none-before, placeBehind, long-walk, short-walk, long-fit, short-fit, unmarked-moved}
-use Rattle.demands.proofs.Rows.{marked-inserted, before-whole, fault-moved, mark-judges, mark-failed}
+use Rattle.demands.proofs.Rows.{foreign-proxies, foreign-some, quiet-foreign, none-before, placeBehind, long-walk, short-walk, long-fit, short-fit}
+use Rattle.demands.proofs.Rows.{unmarked-moved, marked-inserted, before-whole, fault-moved, mark-judges, mark-failed}
 use Rattle.sh_demands.specs.Call.{turnedAway}
 use Rattle.sh_demands.specs.Insertion.{asking, placed, faultBytes, blaming}
 use Rattle.sh_demands.proofs.Blaming.{fault-bytes-are}

@@ -64,8 +64,8 @@ textBody x text =
 abbrev pub textBytes : Lent → List ℕ → List ℕ
 textBytes x text = headerBytes (x .request) (Base 2001) (20 + length (textBody x text)) ++ textBody x text
 
--- A call is answered so. Between the name's tags stands the name that a record's block stores, escaped, "with markup characters escaped", and nothing bare; and the
--- text read back says that name and the record's state, each if it was asked for.
+-- A call is answered so. Between the name's tags stands the name that a record's block stores, escaped, "with markup characters escaped", and nothing bare; and
+-- the text read back says that name and the record's state, each if it was asked for.
 pub record Says (x : Lent) (b : List ℕ) (s : Served) : Type 0 where
   pub text : List ℕ
   pub answers : s ≡ record { call = Answered (record { length = length (textBytes x text); place = 0 }); buffer = over (textBytes x text) (x .buffer) }

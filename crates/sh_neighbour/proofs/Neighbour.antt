@@ -94,8 +94,8 @@ module _ (x y : Lent) (count many : ℕ) (first : checkArea (x .table) (length (
       let f = neither (noRequest (x .request)) _ (d .1) in
       rw (second, ← asked .request, ← asked .peer, a .0, le-ltb (length (y .buffer)) 36864 room, c .0, d .0, f .0)
 
-  -- THE THEOREM. Whatever other records the tables hold, the same request comes to the same: where the one call is answered, so is the other over any buffer that
-  -- is large enough, with the same length and the same place, and it leaves the same answer bytes in its buffer.
+  -- THE THEOREM. Whatever other records the tables hold, the same request comes to the same: where the one call is answered, so is the other over any buffer
+  -- that is large enough, with the same length and the same place, and it leaves the same answer bytes in its buffer.
   pub sh-neighbour : (a : Answer) → shServe x .call ≡ Answered a → 36864 ≤ length (y .buffer)
       → (shServe y .call ≡ Answered a) × (take (a .length) (shServe y .buffer) ≡ take (a .length) (shServe x .buffer))
   sh-neighbour a e room =

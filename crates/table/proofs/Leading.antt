@@ -110,7 +110,7 @@ setless-agrees t k e =
     agrees-holds t k
     (λ j a b s. let o : OneSet (blockOf t j) (blockOf t k) = set-says (blockOf t j) (blockOf t k) s in absurd (omega (arith, o .numbered, o .number)))
 
-setless-all : (t : List ℕ) (m : ℕ) → allBelow (setless t) m ≡ true → leading (agreesAt t) m 1 ≡ m
+pub setless-all : (t : List ℕ) (m : ℕ) → allBelow (setless t) m ≡ true → leading (agreesAt t) m 1 ≡ m
 unfolding setless
 setless-all t m e =
     leading-full (agreesAt t) m 1

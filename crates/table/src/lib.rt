@@ -1,7 +1,7 @@
 // The check of a whole table, block by block.
 pub mod area;
-mod hash;
-mod members;
+pub mod hash;
+pub mod members;
 
 use blocks::BLOCK;
 use blocks::Checked;

@@ -12,12 +12,12 @@ ghost use Rattle.table.specs.Leading.{leading};
 ghost use Rattle.table.specs.Remembered.{tagOf, stopsAt, Remembers, SlotFound, Agreed};
 
 // More slots than a table has records: some stay empty, so that a search ends.
-const SLOTS: usize = 4608;
+pub const SLOTS: usize = 4608;
 
 // A slot is 0, or a block's number with three bits of its hash above it, so that few blocks of other sets are looked at.
-const TAG: usize = 8192;
+pub const TAG: usize = 8192;
 
-fn tag(hash: usize) -> usize
+pub fn tag(hash: usize) -> usize
     ensures { λ r. ⌜ (r ≡ tagOf hash) × (r < 8) ⌝ }
 {
     hash / SLOTS % 8
@@ -30,7 +30,7 @@ fn wide(x: u16) -> usize
 }
 
 // The slot at a place.
-fn slot(slots: &[u16], at: usize) -> usize
+pub fn slot(slots: &[u16], at: usize) -> usize
     requires { ⌜ at < length (now slots) ⌝ }
     ensures { λ r. ⌜ r ≡ getD (now (slots .entry)) at 0 ⌝ }
 {

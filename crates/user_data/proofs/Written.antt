@@ -6,7 +6,8 @@ use Rattle.octets.specs.Run.{over, Wrote}
 use Rattle.octets.proofs.Writes.{lent, back, then, named, then-front}
 use Rattle.markup.specs.Escapes.{escaped}
 use Rattle.pen.specs.Bytes.{padding, copied, vendorHead, vendorBytes, vendorSize, ifThere}
-use Rattle.user_data.specs.UserData.{opening, nameStart, nameEnd, stateStart, stateEnd, closing, userState, nameText, stateText, nameElement, stateElement}
+use Rattle.user_data.specs.UserData.{opening, nameStart, nameEnd, stateStart, stateEnd, closing, userState, nameText, stateText, nameElement}
+use Rattle.user_data.specs.UserData.{stateElement}
 use Rattle.user_data.specs.UserData.{shText, userDataBytes}
 use Rattle.user_data.specs.declared.References.{References}
 
@@ -88,7 +89,8 @@ module _ (r : References) (n : ℕ) (name : List ℕ) {b xs ys : List ℕ} where
   unfolding copied padding
   wrote-padded {len} p q = named (rw (p .count)) (omega (arith, q .count, length-replicate {A = ℕ} (inFours len - len) 0)) (then p q)
 
-  pub wrote-told : {len : ℕ} → vendorSize (length (shText r n name)) ≤ length b → len ≡ length (shText r n name) → Wrote (copied (shText r n name)) (lent 12 b) xs (inFours len)
+  pub wrote-told : {len : ℕ} → vendorSize (length (shText r n name)) ≤ length b → len ≡ length (shText r n name)
+      → Wrote (copied (shText r n name)) (lent 12 b) xs (inFours len)
       → Wrote (vendorHead 702 (12 + len)) (back 12 b xs) ys 12
       → Wrote (vendorBytes 702 (shText r n name)) b ys (12 + inFours len)
   unfolding vendorBytes

@@ -7,7 +7,8 @@ use Rattle.plain_deciding.proofs.answer_read.Tie as tie
 -- what the function requires lies too far back to be looked for
 returns : tie.Need-returns
 returns c =
-    let asked = c .before .before .before .before .before .before .before .before .before .before .before .before .before .before .before .before .before .before .before .before .pre in
+    let written = c .before .before .before .before .before .before .before .before .before .before in
+    let asked = written .before .before .before .before .before .before .before .before .before .before .pre in
     (search (needs, plan-says, asked), search (needs, plan-table, asked), search (needs, plan-vectors, asked))
 
 pub answer-read-spec : {M : Type 1} → statement M

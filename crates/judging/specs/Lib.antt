@@ -1,0 +1,3 @@
+pub mod Fit
+pub mod Members
+pub mod Passes

@@ -1,0 +1,1 @@
+// Laws of the list for the billing desk: no code.

@@ -1,0 +1,4 @@
+pub mod Block
+pub mod Row
+pub mod RowIn
+pub mod Written
