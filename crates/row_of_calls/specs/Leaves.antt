@@ -1,8 +1,9 @@
 -- What the code of a row goes by, and what each step of it leaves.
-use Prim.Native.Nat.{ℕ}
+use Prim.Native.Nat.{ℕ, _≤_}
 use mathlib.Core.Path.{_≡_}
 use mathlib.Core.Bool.{Bool, false, _&&_}
 use mathlib.Core.List.{List}
+use lib.ListN.{length}
 use lib.Dec.{eqb, ltb}
 use Rattle.octets.specs.Run.{Wrote}
 use Rattle.reading.specs.declared.Outcome.{Outcome}
@@ -34,6 +35,7 @@ endedSo number served altered marked = record { number = number; served = served
 -- one request: the call made, its word written
 pub record Serves (x : Lent) (words : List ℕ) (d : Done) (table' vectors' answers' words' : List ℕ) : Type 0 where
   pub length-is : d .length ≡ answerLength (serve x .call)
+  pub within : d .length ≤ length (x .buffer)
   pub altered-is : d .altered ≡ alters x
   pub marked-is : d .marked ≡ marks x
   pub table-is : table' ≡ serve x .table
