@@ -85,7 +85,7 @@ module _ (b : List ℕ) (room : 36864 ≤ length b) where
   unfolding dealing
   denied-alters = altered-from second (leaves 116 named used (over denied b)) denied-served named-sound
 
-  sent-marks : marks first ≡ true
+  pub sent-marks : marks first ≡ true
   unfolding dealing
   sent-marks = marked-from first (leaves 336 named used (over sent b)) sent-served
 

@@ -6,7 +6,7 @@ use Rattle.blocks.specs.Blocks.{blockOf}
 use Rattle.blocks.specs.Changed.{isOne}
 use Rattle.blocks.proofs.Changed.{one-append}
 use Rattle.blocks.specs.declared.Checked.the-variants.{Sound}
-use Rattle.table.specs.Area.{checkArea}
+use Rattle.table.specs.Area.{sizeIn, tableIn, checkArea}
 use Rattle.table.proofs.Areas.{sound-size-in, check-exact}
 use Rattle.diameter.specs.Put.{Piece, All, bytesOf}
 use Rattle.counting.specs.Words.{longBytes}
@@ -34,9 +34,10 @@ use Rattle.report_numbers.specs.File.{OneRequest, endToEnd, BrokenOff}
 use Rattle.report_numbers.specs.Turns.{InTurn}
 use Rattle.report_numbers.proofs.Cut.{one-piece}
 use Rattle.report_numbers.proofs.Numbers.{report-0-whole}
-use Rattle.row_of_calls.specs.Row.{Rowed, answerLength, next, rowed}
+use Rattle.row_of_calls.specs.Row.{Rowed, answerLength, alters, marks, next, rowed}
 use Rattle.row_of_calls.specs.Word.{callWord}
 use Rattle.worked_examples.proofs.Computed.{held, no-vectors}
+use Rattle.worked_examples.proofs.Sample.{block}
 use Rattle.report_example.proofs.Calls.{lir, removal, strayed, file, here, gone, messages, each, sound-here, sound-gone, lending, comes}
 use Rattle.report_example.proofs.Cards.{mar, fresh}
 use Rattle.row_laws.specs.Reads.{rowIn, ReadsRow, alteredIn, markedIn}
@@ -47,8 +48,8 @@ use Rattle.row_laws.proofs.Rows as rows
 use Rattle.row_example.proofs.Steps.{over-rest}
 use Rattle.row_example.proofs.Small.{found, removed, opens, found-long, found-served, removed-served, area, words, area-long}
 use Rattle.row_example.proofs.Small.{words-long, month, month-is, alone}
-use Rattle.row_example.proofs.Small.{file-pieces, lending-row, full-is}
-use Rattle.row_example.proofs.Dealt.{dealing, both, cards, cards-pieces, sent-served, cards-is}
+use Rattle.row_example.proofs.Small.{found-alters, removed-alters, file-pieces, lending-row, full-is}
+use Rattle.row_example.proofs.Dealt.{dealing, both, cards, cards-pieces, sent-served, sent-marks, cards-is}
 
 -- THE ROW: the month's word is read back as 7, with records altered and no vector marked, and 4 requests
 abbrev outcome : Rowed
@@ -154,9 +155,53 @@ met-0 = rows.row-0 alone words alone-is .1
 met-7 : BrokenOff (drop (stopOf file) file)
 met-7 = rows.row-7 month words (ap (λ (r : Rowed). r .number) month-is) .1
 
+met-room : rowed alone words .served ≡ length (requestsOf alone)
+met-room =
+    let n : length (requestsOf alone) ≡ 1 = ap length (one-piece lir (each .0)) in
+    rows.row-room alone words (omega (arith, n, area-long)) (omega (arith, n, words-long)) (omega (arith, n))
+
+-- WHAT ITS WORD SAYS: the month altered a record and marked no vector, one LIR altered none, and the cards marked one
+met-altered : (p : InTurn (servedOf month words)) × (alters (lentTo month p) ≡ true)
+met-altered = rows.row-altered month words (ap (λ (r : Rowed). r .altered) month-is)
+
+met-altered-by : rowed month words .altered ≡ true
+met-altered-by =
+    rows.row-altered-by month words second (ap (λ (y : Lent). alters (asking y removal)) after-found ∙ removed-alters (drop 132 area) big-left)
+
+met-unmarked : rowed month words .vectors ≡ []
+met-unmarked = rows.row-unmarked month words (ap (λ (r : Rowed). r .marked) month-is)
+
+met-unaltered : rowed alone words .table ≡ here
+met-unaltered =
+    rows.row-unaltered alone words
+    (ap (λ (r : Rowed). r .altered) (rows.row-one alone (each .0) words big (omega (arith, words-long))) ∙ found-alters area big)
+
+met-marked : (p : InTurn (servedOf (cards area) words)) × (marks (lentTo (cards area) p) ≡ true)
+met-marked = rows.row-marked (cards area) words (ap (λ (r : Rowed). r .marked) cards-is)
+
+-- over a block of zeros, and over a vector file of one byte
+unsound : Lent
+unsound = lent file block [] [] area (underCx 3588 0)
+
+met-unsound : rowed unsound words .table ≡ block
+unfolding opens unsound checkArea tableIn sizeIn
+met-unsound = rows.row-unsound unsound words 0 refl .0
+
+spoilt : Lent
+spoilt = lent file here [] (3 ∷ []) area (underCx 3588 0)
+
+met-unsound-vectors : rowed spoilt words .vectors ≡ 3 ∷ []
+unfolding opens spoilt
+met-unsound-vectors = rows.row-unsound-vectors spoilt words 0 refl .1
+
 -- NO VECTOR TWICE: the one of the cards was unused, and is used
 served-cards : servedOf (cards area) words ≡ both
 served-cards = ap (λ (r : Rowed). take (r .served) (requestsOf (cards area))) cards-is ∙ ap (take 2) cards-pieces
+
+met-marked-by : rowed (cards area) words .marked ≡ true
+unfolding lentAfter
+met-marked-by =
+    rows.row-marked-by (cards area) words (record { before = []; request = mar; after = mar ∷ []; is = served-cards }) (sent-marks area big)
 
 first-sent : isOne (sentBy (tableOnly (asking (cards area) mar))) 0 ≡ true
 unfolding dealing
@@ -223,13 +268,13 @@ gone-sound = check-exact gone 0 (sound-size-in gone 0 1 sound-gone) ∙ sound-go
 missing : Lent
 missing = lending lir gone area
 
-missing-fails : succeeds (decision (tableOnly missing) 1 .given .verdict .result) ≡ false
+missing-result : succeeds (decision (tableOnly missing) 1 .given .verdict .result) ≡ false
 unfolding opens missing
-missing-fails = ap (λ (y : Lent). succeeds (decision y 1 .given .verdict .result)) (only-sound missing 1 sound-gone)
+missing-result = ap (λ (y : Lent). succeeds (decision y 1 .given .verdict .result)) (only-sound missing 1 sound-gone)
 
 met-failure : lentAfter missing (lir ∷ []) .table ≡ gone
 unfolding missing lentAfter
-met-failure = rows.row-demand-2-failure missing words (sole missing (each .0) big) 1 gone-sound missing-fails .0
+met-failure = rows.row-demand-2-failure missing words (sole missing (each .0) big) 1 gone-sound missing-result .0
 
 -- .. and into which an AVP of an unknown kind is put, of 8 bytes and without M
 cutAt : ℕ → List ℕ → Piece
@@ -351,3 +396,6 @@ few =
 
 met-joined : rowed (asking alone (lir ++ removal)) words ≡ joined alone words (rowed (goingOn alone words removal) (wordsLeft alone words))
 met-joined = rows.row-joined alone words removal alone-is few
+
+met-joined-only : rowed alone words .served + rowed (goingOn alone words removal) (wordsLeft alone words) .served ≤ 4294967295
+met-joined-only = rows.row-joined-only alone words removal met-joined

@@ -62,7 +62,7 @@ module _ (b : List ℕ) (room : 36864 ≤ length b) where
   unfolding opens
   found-alters = altered-from (lending lir here b) (comes 132 here (over found b)) found-served sound-here
 
-  removed-alters : alters (lending removal here b) ≡ true
+  pub removed-alters : alters (lending removal here b) ≡ true
   unfolding opens
   removed-alters = altered-from (lending removal here b) (comes 116 gone (over removed b)) removed-served sound-here
 

@@ -79,7 +79,7 @@ words-count x [] = refl
 words-count x (p ∷ ps) = ap suc (words-count (next x p) ps)
 
 -- What holds of what is lent, and is left by every call, holds of what is left.
-carried : (P : Lent → Type 0) → ((y : Lent) (p : List ℕ) → P y → P (next y p)) → (x : Lent) (ps : List (List ℕ)) → P x → P (lentAfter x ps)
+pub carried : (P : Lent → Type 0) → ((y : Lent) (p : List ℕ) → P y → P (next y p)) → (x : Lent) (ps : List (List ℕ)) → P x → P (lentAfter x ps)
 unfolding lentAfter
 carried P step x [] h = h
 carried P step x (p ∷ ps) h = carried P step (next x p) ps (step x p h)

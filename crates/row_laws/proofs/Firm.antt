@@ -8,9 +8,9 @@ use Rattle.row_of_calls.specs.Row.{Rowed, rowed}
 use Rattle.row_laws.specs.Reads.{rowIn, ReadsRow}
 use Rattle.row_laws.proofs.Ends.{row-limit}
 
-pub row-one : (x : Lent) (ws : List ℕ) (r s : ℕ) (t u v w a b o q : List ℕ) → RowPromise x ws r t v a o → RowPromise x ws s u w b q
+pub one-outcome : (x : Lent) (ws : List ℕ) (r s : ℕ) (t u v w a b o q : List ℕ) → RowPromise x ws r t v a o → RowPromise x ws s u w b q
     → (r ≡ s) × (t ≡ u) × (v ≡ w) × (a ≡ b) × (o ≡ q)
-row-one x ws r s t u v w a b o q p k = (
+one-outcome x ws r s t u v w a b o q p k = (
   p .word-is ∙ sym (k .word-is),
   p .table-is ∙ sym (k .table-is),
   p .vectors-is ∙ sym (k .vectors-is),

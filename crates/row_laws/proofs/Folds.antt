@@ -8,7 +8,7 @@ use Rattle.calling.specs.Serve.{serve}
 use Rattle.deciding.proofs.Tests.{neither}
 use Rattle.row_of_calls.specs.Row.{Rowed, answerLength, alters, marks, noRoom, ends, next, before, rowFrom}
 use Rattle.row_of_calls.specs.Word.{callWord}
-use Rattle.row_laws.specs.Turns.{lentAfter, wordsBy, answersBy, someAlters, someMarks, behind}
+use Rattle.row_laws.specs.Turns.{lentAfter, wordsBy, answersBy, someCall, someAlters, someMarks, behind}
 
 -- the rows of words behind one word and behind more
 drop-more : (n : ℕ) (words : List ℕ) → drop (8 * n) (drop 8 words) ≡ drop (8 * suc n) words
@@ -16,7 +16,7 @@ drop-more n words = let e : 8 + 8 * n ≡ 8 * suc n = omega arith in drop-drop (
 
 -- one more request before others
 before-behind : (x : Lent) (p : List ℕ) (ps : List (List ℕ)) (r : Rowed) → before (asking x p) (behind (next x p) ps r) ≡ behind x (p ∷ ps) r
-unfolding answersBy wordsBy wordsBytes someAlters someMarks
+unfolding answersBy wordsBy wordsBytes someCall
 before-behind x p ps r =
     rw (
       append-assoc (take (answerLength (serve (asking x p) .call)) (serve (asking x p) .buffer)) (answersBy (next x p) ps) (r .answers),
@@ -41,7 +41,7 @@ closed-more x words p ps r e =
 
 pub row-closed : (end : ℕ) (x : Lent) (words : List ℕ) (most : ℕ) (ps : List (List ℕ))
     → rowFrom end x words most ps ≡ closed x words ps (rowFrom end x words most ps)
-unfolding rowFrom lentAfter answersBy wordsBy wordsBytes someAlters someMarks
+unfolding rowFrom lentAfter answersBy wordsBy wordsBytes someCall
 row-closed end x words most [] = refl
 row-closed end x words most (p ∷ ps) = go (noRoom (length (x .buffer)) (length words) most) (row-closed end (next x p) (drop 8 words) (most - 1) ps)
   where
@@ -172,7 +172,7 @@ words-fit x words most (p ∷ ps) r =
 -- TWO ROWS: where all of the first are served, the others go on.
 pub row-append : (e end : ℕ) (x : Lent) (words : List ℕ) (most : ℕ) (ps qs : List (List ℕ)) → rowFrom e x words most ps .served ≡ length ps
     → rowFrom end x words most (ps ++ qs) ≡ behind x ps (rowFrom end (lentAfter x ps) (drop (8 * length ps) words) (most - length ps) qs)
-unfolding rowFrom lentAfter answersBy wordsBy wordsBytes someAlters someMarks
+unfolding rowFrom lentAfter answersBy wordsBy wordsBytes someCall
 row-append e end x words most [] qs h =
     let z : most - 0 ≡ most = omega arith in
     let n : 0 + rowFrom end x words most qs .served ≡ rowFrom end x words most qs .served = omega arith in

@@ -1,6 +1,8 @@
 pub mod Calls
 pub mod Ends
+pub mod Enough
 pub mod Firm
+pub mod Flags
 pub mod Folds
 pub mod Joined
 pub mod Rows

@@ -3,10 +3,10 @@
 -- What the words below mean is in specs/Turns (the requests in turn), specs/Reads (the word read back), and report_numbers/specs/File and Turns (a file of
 -- requests, and one in its place).
 use Rattle.octets.specs.Standard.{ℕ, _+_, _*_, _/_, _≤_, _<_, List, [], _∷_, _++_, true, false, none, _≡_, refl, sym, ap, _∙_, _⊎_, _≢_, arith}
-use Rattle.octets.specs.Standard.{length, getD, take, drop, drop-at, length-append, length-drop, eqb, ltb}
+use Rattle.octets.specs.Standard.{length, getD, take, drop, drop-at, length-append, length-drop, or-false, eqb, ltb}
 use Rattle.blocks.specs.Blocks.{blockOf}
 use Rattle.blocks.specs.Changed.{isOne}
-use Rattle.blocks.specs.declared.Checked.the-variants.{Sound}
+use Rattle.blocks.specs.declared.Checked.the-variants.{Sound, Bad}
 use Rattle.table.specs.Area.{tableIn, checkArea}
 use Rattle.vectors.specs.VectorFile.{checkVectors}
 use Rattle.rewrite.specs.Keeps.{alterable}
@@ -26,16 +26,19 @@ use Rattle.vectors_sent.specs.Row.{leftBy, sentOver, Once}
 use Rattle.vectors_sent.specs.Sent.{usedAt}
 use Rattle.vectors_sent.proofs.Sending.{sent-once, sent-over, row-length, row-check}
 use Rattle.reporting.specs.Pieces.{stopOf}
-use Rattle.reporting.specs.Report.{requestsOf}
+use Rattle.reporting.specs.Report.{requestsOf, ended}
 use Rattle.report_numbers.specs.File.{OneRequest, endToEnd, BrokenOff}
 use Rattle.report_numbers.specs.Turns.{InTurn}
 use Rattle.row_of_calls.specs.Row.{Rowed, answerLength, alters, marks, ends, next, rowed}
 use Rattle.row_of_calls.specs.Word.{callWord}
 use Rattle.row_laws.specs.Reads.{rowIn, ReadsRow}
-use Rattle.row_laws.specs.Turns.{servedOf, lentAfter, lentTo, AsksAbout, wordsBy, answersBy, written, behind, goingOn, wordsLeft, joined, turnsOf}
+use Rattle.row_laws.specs.Turns.{servedOf, lentAfter, lentTo, AsksAbout, wordsBy, answersBy, someAlters, someMarks, written}
+use Rattle.row_laws.specs.Turns.{behind, goingOn, wordsLeft, joined, turnsOf}
 use Rattle.row_laws.proofs.Calls as calls
 use Rattle.row_laws.proofs.Ends as ending
+use Rattle.row_laws.proofs.Enough.{all-have-room}
 use Rattle.row_laws.proofs.Firm as firm
+use Rattle.row_laws.proofs.Flags as flags
 use Rattle.row_laws.proofs.Folds.{words-fit}
 use Rattle.row_laws.proofs.Joined as join
 use Rattle.row_laws.proofs.Turns as turns
@@ -43,7 +46,7 @@ use Rattle.row_laws.proofs.Turns as turns
 -- THE ROW. Any two outcomes that meet the promise are one: the word, the table, the vectors, the answers and the words.
 pub row-unique : (x : Lent) (ws : List ℕ) (r s : ℕ) (t u v w a b o q : List ℕ) → RowPromise x ws r t v a o → RowPromise x ws s u w b q
     → (r ≡ s) × (t ≡ u) × (v ≡ w) × (a ≡ b) × (o ≡ q)
-row-unique = firm.row-one
+row-unique = firm.one-outcome
 
 -- Out of its word the caller reads the number (bits 48 to 63), whether a record was altered (bit 32) and a vector marked (bit 33), and how many requests have
 -- a word (bits 0 to 31). So what the exported call is promised to return and to leave is `rowed`, and each theorem below is one about it.
@@ -59,6 +62,12 @@ module _ (x : Lent) (ws : List ℕ) where
   -- 15, what was done so far stays done.
   pub row-is-calls : rowed x ws ≡ behind x (servedOf x ws) (ends (rowed x ws .number) (lentAfter x (servedOf x ws)) (drop (8 * rowed x ws .served) ws))
   row-is-calls = ending.row-is x ws
+
+  altered-is : rowed x ws .altered ≡ someAlters x (servedOf x ws)
+  altered-is = ap (λ (r : Rowed). r .altered) row-is-calls ∙ or-false (someAlters x (servedOf x ws))
+
+  marked-is : rowed x ws .marked ≡ someMarks x (servedOf x ws)
+  marked-is = ap (λ (r : Rowed). r .marked) row-is-calls ∙ or-false (someMarks x (servedOf x ws))
 
   pub row-count : length (servedOf x ws) ≡ rowed x ws .served
   row-count = ending.served-count x ws
@@ -118,6 +127,46 @@ module _ (x : Lent) (ws : List ℕ) where
   -- It ends by no other number.
   pub row-numbers : (rowed x ws .number ≡ 0) ⊎ ((rowed x ws .number ≡ 7) ⊎ (rowed x ws .number ≡ 15))
   row-numbers = ending.three-numbers x ws
+
+  -- With 36,864 bytes of `answers` and 8 of `words` for each request of the file each has a word, unless there are more than 4,294,967,295.
+  pub row-room : 36864 * length (requestsOf x) ≤ length (x .buffer) → 8 * length (requestsOf x) ≤ length ws → length (requestsOf x) ≤ 4294967295
+      → rowed x ws .served ≡ length (requestsOf x)
+  row-room = all-have-room (ended (x .request)) x ws 4294967295 (requestsOf x)
+
+  -- WHAT ITS WORD SAYS of records and vectors: that one was altered or marked is said exactly if one of the requests did it ..
+  pub row-altered : rowed x ws .altered ≡ true → (p : InTurn (servedOf x ws)) × (alters (lentTo x p) ≡ true)
+  row-altered e = flags.some-one (λ y. alters y) x (servedOf x ws) (sym (altered-is) ∙ e)
+
+  pub row-altered-by : (p : InTurn (servedOf x ws)) → alters (lentTo x p) ≡ true → rowed x ws .altered ≡ true
+  row-altered-by p e = altered-is ∙ flags.one-some (λ y. alters y) x (servedOf x ws) p e
+
+  pub row-marked : rowed x ws .marked ≡ true → (p : InTurn (servedOf x ws)) × (marks (lentTo x p) ≡ true)
+  row-marked e = flags.some-one (λ y. marks y) x (servedOf x ws) (sym (marked-is) ∙ e)
+
+  pub row-marked-by : (p : InTurn (servedOf x ws)) → marks (lentTo x p) ≡ true → rowed x ws .marked ≡ true
+  row-marked-by p e = marked-is ∙ flags.one-some (λ y. marks y) x (servedOf x ws) p e
+
+  -- .. and where it is not said, the table's whole area, or the vector file, is byte for byte as it came: there is nothing to store.
+  pub row-unaltered : rowed x ws .altered ≡ false → rowed x ws .table ≡ x .table
+  row-unaltered e =
+      ap (λ (r : Rowed). r .table) row-is-calls
+      ∙ flags.none-same (λ y. alters y) (λ y. y .table) flags.unaltered-same x (servedOf x ws) (sym altered-is ∙ e)
+
+  pub row-unmarked : rowed x ws .marked ≡ false → rowed x ws .vectors ≡ x .vectors
+  row-unmarked e =
+      ap (λ (r : Rowed). r .vectors) row-is-calls
+      ∙ flags.none-same (λ y. marks y) (λ y. y .vectors) flags.unmarked-same x (servedOf x ws) (sym marked-is ∙ e)
+
+  -- Over an unsound table or an unsound vector file nothing is altered.
+  pub row-unsound : (k : ℕ) → checkArea (x .table) (length (x .profile)) ≡ Bad k → (rowed x ws .table ≡ x .table) × (rowed x ws .vectors ≡ x .vectors)
+  row-unsound k e =
+      let u = flags.unsound-unmoved x (servedOf x ws) k e in
+      (ap (λ (r : Rowed). r .table) row-is-calls ∙ u .table, ap (λ (r : Rowed). r .vectors) row-is-calls ∙ u .vectors)
+
+  pub row-unsound-vectors : (k : ℕ) → checkVectors (x .vectors) ≡ Bad k → (rowed x ws .table ≡ x .table) × (rowed x ws .vectors ≡ x .vectors)
+  row-unsound-vectors k e =
+      let u = flags.spoilt-unmoved x (servedOf x ws) k e in
+      (ap (λ (r : Rowed). r .table) row-is-calls ∙ u .table, ap (λ (r : Rowed). r .vectors) row-is-calls ∙ u .vectors)
 
   -- WHAT STAYS. Bytes past what was written, in `answers` and in `words`; the length of every area.
   pub row-answers-past : drop (written x ws) (rowed x ws .answers) ≡ drop (written x ws) (x .buffer)
@@ -262,3 +311,9 @@ pub row-joined : (x : Lent) (ws more : List ℕ) → rowed x ws .number ≡ 0
     → rowed x ws .served + rowed (goingOn x ws more) (wordsLeft x ws) .served ≤ 4294967295
     → rowed (asking x (x .request ++ more)) ws ≡ joined x ws (rowed (goingOn x ws more) (wordsLeft x ws))
 row-joined x ws more whole few = join.both-joined x ws more whole few
+
+-- Only then: no row has more.
+pub row-joined-only : (x : Lent) (ws more : List ℕ)
+    → rowed (asking x (x .request ++ more)) ws ≡ joined x ws (rowed (goingOn x ws more) (wordsLeft x ws))
+    → rowed x ws .served + rowed (goingOn x ws more) (wordsLeft x ws) .served ≤ 4294967295
+row-joined-only x ws more e = omega (arith, ap (λ (r : Rowed). r .served) e, row-limit (asking x (x .request ++ more)) ws)

@@ -44,14 +44,16 @@ unfoldable pub answersBy : Lent → List (List ℕ) → List ℕ
 answersBy x [] = []
 answersBy x (p ∷ ps) = take (answerLength (serve (asking x p) .call)) (serve (asking x p) .buffer) ++ answersBy (next x p) ps
 
--- whether one of them altered a record, and whether one marked a vector
-unfoldable pub someAlters : Lent → List (List ℕ) → Bool
-someAlters x [] = false
-someAlters x (p ∷ ps) = alters (asking x p) || someAlters (next x p) ps
+-- whether a test holds of one of the calls: whether one altered a record, and whether one marked a vector
+unfoldable pub someCall : (Lent → Bool) → Lent → List (List ℕ) → Bool
+someCall test x [] = false
+someCall test x (p ∷ ps) = test (asking x p) || someCall test (next x p) ps
 
-unfoldable pub someMarks : Lent → List (List ℕ) → Bool
-someMarks x [] = false
-someMarks x (p ∷ ps) = marks (asking x p) || someMarks (next x p) ps
+abbrev pub someAlters : Lent → List (List ℕ) → Bool
+someAlters x ps = someCall (λ y. alters y) x ps
+
+abbrev pub someMarks : Lent → List (List ℕ) → Bool
+someMarks x ps = someCall (λ y. marks y) x ps
 
 -- the bytes that a row writes to `answers`
 abbrev pub written : Lent → List ℕ → ℕ
