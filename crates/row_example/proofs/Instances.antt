@@ -29,7 +29,7 @@ use Rattle.vectors_sent.specs.Sent.{sentBy, usedAt}
 use Rattle.vectors_sent.specs.Row.{sentOver}
 use Rattle.vectors_sent.proofs.Sending.{unsent-stay}
 use Rattle.reporting.specs.Pieces.{stopOf}
-use Rattle.reporting.specs.Report.{requestsOf}
+use Rattle.reporting.specs.Report.{requestsOf, ended}
 use Rattle.report_numbers.specs.File.{OneRequest, endToEnd, BrokenOff}
 use Rattle.report_numbers.specs.Turns.{InTurn}
 use Rattle.report_numbers.proofs.Cut.{one-piece}
@@ -155,10 +155,13 @@ met-0 = rows.row-0 alone words alone-is .1
 met-7 : BrokenOff (drop (stopOf file) file)
 met-7 = rows.row-7 month words (ap (λ (r : Rowed). r .number) month-is) .1
 
-met-room : rowed alone words .served ≡ length (requestsOf alone)
+met-room : rowed alone words .number ≡ ended lir
 met-room =
     let n : length (requestsOf alone) ≡ 1 = ap length (one-piece lir (each .0)) in
-    rows.row-room alone words (omega (arith, n, area-long)) (omega (arith, n, words-long)) (omega (arith, n))
+    rows.row-room alone words (omega (arith, n, area-long)) (omega (arith, n, words-long)) (omega (arith, n)) .1
+
+met-had-room : 36864 ≤ length (lentTo month second .buffer)
+met-had-room = rows.row-had-room month words second .0
 
 -- WHAT ITS WORD SAYS: the month altered a record and marked no vector, one LIR altered none, and the cards marked one
 met-altered : (p : InTurn (servedOf month words)) × (alters (lentTo month p) ≡ true)

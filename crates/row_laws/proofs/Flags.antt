@@ -11,7 +11,7 @@ use Rattle.table.specs.Area.{checkArea}
 use Rattle.table.proofs.Sound.{table-says}
 use Rattle.vectors.specs.VectorFile.{checkVectors}
 use Rattle.rewrite.specs.Change.{differ, alteredUpTo}
-use Rattle.deciding.proofs.Tests.{neither}
+use Rattle.refusals.proofs.Passing.{neither}
 use Rattle.calling.specs.Lent.{Lent, asking, tableOnly}
 use Rattle.calling.specs.Serve.{checkOf, serveTable, serve}
 use Rattle.calling.proofs.Areas.{served-large, check-in}

@@ -5,7 +5,7 @@ use Rattle.octets.specs.Standard.{suc-add}
 use Rattle.counting.specs.Words.{longBytes, wordsBytes}
 use Rattle.calling.specs.Lent.{Lent, asking}
 use Rattle.calling.specs.Serve.{serve}
-use Rattle.deciding.proofs.Tests.{neither}
+use Rattle.refusals.proofs.Passing.{neither}
 use Rattle.row_of_calls.specs.Row.{Rowed, answerLength, alters, marks, noRoom, ends, next, before, rowFrom}
 use Rattle.row_of_calls.specs.Word.{callWord}
 use Rattle.row_laws.specs.Turns.{lentAfter, wordsBy, answersBy, someCall, someAlters, someMarks, behind}

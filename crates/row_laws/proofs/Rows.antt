@@ -128,10 +128,20 @@ module _ (x : Lent) (ws : List ℕ) where
   pub row-numbers : (rowed x ws .number ≡ 0) ⊎ ((rowed x ws .number ≡ 7) ⊎ (rowed x ws .number ≡ 15))
   row-numbers = ending.three-numbers x ws
 
-  -- With 36,864 bytes of `answers` and 8 of `words` for each request of the file each has a word, unless there are more than 4,294,967,295.
+  -- Each that has a word had room: so a request is the first without exactly where there is none.
+  pub row-had-room : (p : InTurn (servedOf x ws))
+      → (36864 ≤ length (lentTo x p .buffer)) × (8 * length (p .before) + 8 ≤ length ws) × (length (p .before) < 4294967295)
+  row-had-room p =
+      let r = ending.turn-room x ws p in
+      (r .answer, omega (arith, r .word, length-drop (8 * length (p .before)) ws), omega (arith, r .count))
+
+  -- With 36,864 bytes of `answers` and 8 of `words` for each request of the file each has a word, unless there are more than 4,294,967,295; and the row ends
+  -- as a report does.
   pub row-room : 36864 * length (requestsOf x) ≤ length (x .buffer) → 8 * length (requestsOf x) ≤ length ws → length (requestsOf x) ≤ 4294967295
-      → rowed x ws .served ≡ length (requestsOf x)
-  row-room = all-have-room (ended (x .request)) x ws 4294967295 (requestsOf x)
+      → (rowed x ws .served ≡ length (requestsOf x)) × (rowed x ws .number ≡ ended (x .request))
+  row-room a w m =
+      let e = all-have-room (ended (x .request)) x ws 4294967295 (requestsOf x) a w m in
+      (e, ending.whole-ends x ws e)
 
   -- WHAT ITS WORD SAYS of records and vectors: that one was altered or marked is said exactly if one of the requests did it ..
   pub row-altered : rowed x ws .altered ≡ true → (p : InTurn (servedOf x ws)) × (alters (lentTo x p) ≡ true)
