@@ -413,15 +413,17 @@ static int take_next(Peer *peer) {
     return step > 0;
 }
 
-/* Takes a message of each peer, and another of each, until no whole one is left or the row is full: so every peer has its part in it. */
+/* Takes a message of each peer, and another of each, until no whole one is left or the row is full: so every peer has its part in it. While nothing can be
+ * stored, a row has one request, so that what alters nothing is answered. */
 static void gather(void) {
+    const size_t most = files.laid_over ? 1 : row.most;
     int taken = 1;
     more = 0;
     while (taken) {
         taken = 0;
-        for (int i = 0; i < PEERS && row.count < row.most; i++) taken |= take_next(&peers[i]);
+        for (int i = 0; i < PEERS && row.count < most; i++) taken |= take_next(&peers[i]);
     }
-    more |= row.count == row.most;
+    more |= row.count == most;
 }
 
 static int for_later(void) { return errno == EAGAIN || errno == EWOULDBLOCK || errno == EINTR; }

@@ -22,7 +22,7 @@ command -v python3 >/dev/null || fail 'python3 is missing (Debian: python3)'
 cp -r "$top/examples" "$room/source"
 
 # Three trials are about peers that wait in vain, and have a daemon with little patience; the others may run on a machine that is slow.
-hasty='greeting slow ending' others='cut many garbage replaced declined two_users laid_over sizes taken taken_over_kills put_in timed_out editions features voicemail last_good twice full kills'
+hasty='greeting slow ending' others='cut many garbage replaced declined two_users laid_over sizes taken taken_over_kills put_in timed_out editions features voicemail last_good twice full kills rows row_order row_full row_kills'
 include=$top/include
 build() { # SOURCES PROGRAM TRIAL [OPTION]
     local flags=(-DLOOK_AGAIN=1 "${@:4}")
@@ -183,6 +183,24 @@ with 'two daemons over one table' last_good files.c 's/^    if (why == NULL) why
 with 'a lock that flock(1) does not see' last_good files.c \
     's/^    if (flock(file, LOCK_EX | LOCK_NB) == 0)/    struct flock all = {.l_type = F_WRLCK};\n    if (fcntl(file, F_SETLK, \&all) == 0 || errno == EBADF)/'
 with 'rotten vectors that are lent as they are' last_good files.c 's/vectors->length = 0;/;/'
+with 'a store for each request' rows row.h 's/^#define ROW_MOST 64/#define ROW_MOST 1/'
+with 'a row of more requests than are stored at once' rows row.h 's/^#define ROW_MOST 64/#define ROW_MOST 100/'
+with 'what alters nothing, and is stored' rows row.c 's/keep_altered(files, altered);/keep_altered(files, altered | NDUSHAVIRE_ROW_ALTERED);/'
+with 'a watchdog that is answered before what was asked before it' row_order daemon.c 's/^    if (peer->in_row) return wait_for_row();//'
+with 'what came before, answered before what was asked before it' row_order daemon.c 's/if (before != NULL ? peer->in_row : /if (before != NULL ? 0 : /'
+with 'a request that is twice in a row, and is decided twice' row_order daemon.c 's/ : is_in_row(&row, asked->hash)) return/ : 0) return/'
+with 'what the last part of a row altered, and no other, is stored' row_order row.c 's/^        altered |= decide_part/        altered = decide_part/'
+with 'a request by the base standard of another in its row' row_order row.c 's/&row->part\[edition == row->part\[1\].edition\];/\&row->part[0];/'
+with 'what waits for the next row, and nobody looks' row_order daemon.c 's/^    more |= row.count == row.most;//; s/^    more = 1;$//'
+with 'a peer that sends nothing more, and is hung up on' row_order daemon.c 's/^    if (peer->closed \&\& !more \&\& /    if (peer->closed \&\& /'
+with 'a row that is not stored, and is answered' row_full daemon.c 's/^            if (outcome != UNDONE) deliver/            deliver/'
+with 'a row that is not stored, of which the questions are answered' row_full daemon.c \
+    's/^            if (outcome != UNDONE) deliver/            if (outcome != UNDONE || !part->asked[k].alters) deliver/'
+with 'a row that is not stored, and kept in memory' row_full files.c 's/^        undo(files);//'
+with 'a full disk on which no question is answered' row_full row.c 's/row->most = outcome == KEPT ? ROW_MOST : 1;/row->most = ROW_MOST;/'
+with 'rows that stay short when there is room again' row_full row.c 's/row->most = outcome == KEPT ? ROW_MOST : 1;/row->most = outcome == KEPT ? row->most : 1;/'
+with 'a row that is answered before it is stored' row_kills row.c 's/^    const Outcome outcome = keep_altered(files, altered);/    const Outcome outcome = altered ? KEPT : UNALTERED;/'
+with 'a row whose vectors are not stored' row_kills files.c 's/(used \&\& !durable(&files->vectors)) || //'
 with 'half a message, forgotten' cut daemon.c 's/^    peer->from += step;/    if (step == 0) peer->from = peer->have;\n&/'
 with 'what stands behind a message, forgotten' many daemon.c 's/^    peer->from += step;/    peer->from = step > 0 ? peer->have : peer->from;/'
 with 'a long message that is not read over' garbage daemon.c 's/^    peer->over = message_length(message);//'
