@@ -12,7 +12,7 @@ SHELL := /bin/bash
 endif
 .DELETE_ON_ERROR:
 export PYTHONDONTWRITEBYTECODE := 1
-.PHONY: help run test quick clean fmt kit pages header examples tables texts aims stores programs reference installs cited narrow bench stack installable install uninstall
+.PHONY: help run test quick clean fmt kit pages header examples tables texts aims stores programs reference installs cited narrow bench served stack installable install uninstall
 .PHONY: unsound reports moves takes cuts recipes daemon peers differential plain rows noticed soak mutants stats definitions-check cases
 .PHONY: voicemail documents parsed promises spreadsheet
 
@@ -458,7 +458,7 @@ TAKEN := 16-short-2 300-short-2 4096-short-2 4096-long-2 4096-short-2-4
 samples = $(foreach size,$(1),target/bench/$(size).table target/bench/$(size).profile $(word 2,$(subst -, ,$(size))))
 
 #: bench              times beside the aims, and what the plain engine takes beside the quick one, two minutes once their parts are made; a missed aim is marked
-bench: $(addprefix target/bench/,check vectors moves takes decide plain report) $(patsubst %,target/bench/%.table,$(sort $(CHECKED) $(SECOND) $(TAKEN) $(DECIDED)))
+bench: $(addprefix target/bench/,check vectors moves takes decide plain report row) $(patsubst %,target/bench/%.table,$(sort $(CHECKED) $(SECOND) $(TAKEN) $(DECIDED)))
 	@{ $(CC) --version | head -n 1; \
 	   target/bench/check $(call samples,$(CHECKED) $(SECOND)); \
 	   target/bench/moves $(call samples,$(CHECKED)); \
@@ -466,8 +466,23 @@ bench: $(addprefix target/bench/,check vectors moves takes decide plain report) 
 	   target/bench/vectors $(call samples,$(CHECKED)); \
 	   target/bench/decide $(call samples,$(DECIDED)); \
 	   target/bench/plain $(call samples,$(PLAINLY)); \
-	   target/bench/report $(call samples,$(REPORTED)); } | tee target/bench/figures
+	   target/bench/report $(call samples,$(REPORTED)); \
+	   target/bench/row $(call samples,$(REPORTED)); } | tee target/bench/figures
 	@bench/summary.sh target/bench/figures
+
+SERVED := 300-short 4096-short
+#: served             durable SARs and UARs a second over loopback, 64 outstanding: a daemon with a store for each beside one with rows, half a minute; on the disk of target/
+served: $(addprefix target/bench/,served daemon-1 daemon-64) $(SERVED:%=target/bench/%.table)
+	bench/served.sh target/bench/room $(addprefix target/bench/,served daemon-1 daemon-64) 3 $(SERVED) | tee target/bench/rates
+	@bench/summary.sh target/bench/rates
+
+target/bench/daemon-%: $(addprefix examples/,$(DAEMON) area.h base.h fault.h files.h log.h peers.h remember.h row.h stated.h store.h taking.h) $(HEADER) $(SH_HEADER) $(TIMED)
+	mkdir -p $(@D)
+	$(CC) -std=c99 $(STRICT) -DROW_MOST=$* -o $@ $(filter %.c %.a,$^)
+
+target/bench/served: bench/served.c bench/requests.h examples/load.h $(HEADER)
+	mkdir -p $(@D)
+	$(CC) -std=c99 $(STRICT) -o $@ $<
 
 STACKED := 16-short 4096-short 4096-long 4096-tiny 4096-short-2-4 4096-long-2-4
 #: stack              how much stack a call takes, beside the aim; and how much where what it calls is bound lazily
@@ -500,7 +515,8 @@ target/bench/check target/bench/vectors: target/bench/%: bench/%.c $(TIMER) $(SU
 target/bench/decide: bench/decide.c $(TIMER)
 	$(CC) -std=c99 $(STRICT) -o $@ $< $(TIMED) target/bench/libreference_c.a -lpthread -ldl -lm
 
-target/bench/report target/bench/moves target/bench/takes target/bench/plain: target/bench/%: bench/%.c $(TIMER)
+target/bench/report target/bench/row: bench/months.h
+target/bench/report target/bench/row target/bench/moves target/bench/takes target/bench/plain: target/bench/%: bench/%.c $(TIMER)
 	$(CC) -std=c99 $(STRICT) -o $@ $< $(TIMED)
 
 # One program for both bindings: which it is says the environment that it is run in.
