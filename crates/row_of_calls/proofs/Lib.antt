@@ -1,0 +1,5 @@
+pub mod Cases
+pub mod Marking
+pub mod Serving
+pub mod Turns
+pub mod Written
