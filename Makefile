@@ -426,8 +426,8 @@ target/c99/month: tests/month.c bench/requests.h examples/load.h $(HEADER) $(ARC
 	$(X86_CC) -std=c99 $(STRICT) -o $@ $< $(ARCHIVE)
 
 # The two that answer Sh requests are linked with both archives.
-DAEMON := daemon.c files.c log.c row.c taking.c
-target/c99/daemon: $(addprefix examples/,$(DAEMON) area.h base.h fault.h files.h log.h peers.h remember.h row.h stated.h store.h taking.h) $(HEADER) $(ARCHIVE)
+DAEMON := $(addprefix examples/,daemon.c files.c log.c row.c taking.c area.h base.h fault.h files.h log.h peers.h remember.h row.h stated.h store.h taking.h)
+target/c99/daemon: $(DAEMON) $(HEADER) $(ARCHIVE)
 	mkdir -p $(@D)
 	$(X86_CC) -std=c99 $(STRICT) -o $@ $(filter %.c %.a,$^)
 $(foreach mode,c99 cxx,$(addprefix target/$(mode)/,daemon userdata)): $(SH_HEADER) $(SH_ARCHIVE)
@@ -476,7 +476,7 @@ served: $(addprefix target/bench/,served daemon-1 daemon-64) $(SERVED:%=target/b
 	bench/served.sh target/bench/room $(addprefix target/bench/,served daemon-1 daemon-64) 3 $(SERVED) | tee target/bench/rates
 	@bench/summary.sh target/bench/rates
 
-target/bench/daemon-%: $(addprefix examples/,$(DAEMON) area.h base.h fault.h files.h log.h peers.h remember.h row.h stated.h store.h taking.h) $(HEADER) $(SH_HEADER) $(TIMED)
+target/bench/daemon-%: $(DAEMON) $(HEADER) $(SH_HEADER) $(TIMED)
 	mkdir -p $(@D)
 	$(CC) -std=c99 $(STRICT) -DROW_MOST=$* -o $@ $(filter %.c %.a,$^)
 

@@ -514,11 +514,17 @@ static short waits_for(const Peer *peer) {
     return (short)((reads ? POLLIN : 0) | (peer->out > 0 ? POLLOUT : 0));
 }
 
-/* Writes what waits, and hangs up on whoever has all and wants no more: one that sends nothing more, once nothing that it sent waits for us. */
+/* Whether a whole message of a peer is there that nobody has taken. */
+static int has_whole(const Peer *peer) {
+    const size_t left = peer->have - peer->from;
+    return left >= HEADER && message_length(peer->in + peer->from) <= left;
+}
+
+/* Writes what waits, and hangs up on whoever has all and wants no more: also one that sends nothing more, once what it sent is answered. */
 static void see_off(Peer *peer) {
     if (peer->out > 0) write_some(peer);
     if (peer->socket < 0) return;
-    if (peer->closed && !more && !files.taking.under_way && has_room(peer)) peer->ending = 1;
+    if (peer->closed && !has_whole(peer)) peer->ending = 1;
     if (peer->ending && peer->out == 0) hang_up(peer, "as agreed");
 }
 

@@ -119,7 +119,7 @@ without 'vectors that are unsound and lent as they are' files.c 's/vectors->leng
 without 'vectors that a row marked, and are not stored' files.c 's/^    const int used = (what & NDUSHAVIRE_ROW_MARKED) != 0,/    const int used = 0,/'
 without 'records that a row altered, and are not stored' files.c 's/ rewritten = (what & NDUSHAVIRE_ROW_ALTERED) != 0;/ rewritten = 0;/'
 without 'an edition that is not the peer'"'"'s' row.c 's/sizeof part->words, part->edition,/sizeof part->words, NDUSHAVIRE_RFC_3588,/'
-without 'features that are supported, and are not stated' row.c 's/part->edition, features)/part->edition, NDUSHAVIRE_NO_FEATURES)/'
+without 'features that are supported, and are not stated' row.c 's/part->edition, features)/part->edition, features \& NDUSHAVIRE_NO_FEATURES)/'
 without 'an X5011 of which the log does not say what was asked for' daemon.c \
     's/^    if (experimental_result(asked->answer, answer_length(asked)) != FEATURE_UNSUPPORTED) return;/    if (left > 0) return;/'
 without 'a table renamed away before ours is stored' files.c \

@@ -192,7 +192,7 @@ with 'a request that is twice in a row, and is decided twice' row_order daemon.c
 with 'what the last part of a row altered, and no other, is stored' row_order row.c 's/^        altered |= decide_part/        altered = decide_part/'
 with 'a request by the base standard of another in its row' row_order row.c 's/&row->part\[edition == row->part\[1\].edition\];/\&row->part[0];/'
 with 'what waits for the next row, and nobody looks' row_order daemon.c 's/^    more |= row.count == row.most;//; s/^    more = 1;$//'
-with 'a peer that sends nothing more, and is hung up on' row_order daemon.c 's/^    if (peer->closed \&\& !more \&\& /    if (peer->closed \&\& /'
+with 'a peer that sends nothing more, and is hung up on' row_order daemon.c 's/^    if (peer->closed \&\& !has_whole(peer)) /    if (peer->closed) /'
 with 'a row that is not stored, and is answered' row_full daemon.c 's/^            if (outcome != UNDONE) deliver/            deliver/'
 with 'a row that is not stored, of which the questions are answered' row_full daemon.c \
     's/^            if (outcome != UNDONE) deliver/            if (outcome != UNDONE || !part->asked[k].alters) deliver/'
