@@ -25,10 +25,10 @@
  * Exit status: 0 ended by SIGTERM or SIGINT, or --help; 1 it cannot start or go on; 2 the arguments are others. */
 #define _POSIX_C_SOURCE 200809L
 #include <arpa/inet.h>
-#include <netinet/in.h>
-#include <netinet/tcp.h>
 #include <errno.h>
 #include <fcntl.h>
+#include <netinet/in.h>
+#include <netinet/tcp.h>
 #include <poll.h>
 #include <signal.h>
 #include <sys/socket.h>

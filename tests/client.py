@@ -1358,6 +1358,7 @@ class Rows:
 
     def send(self, sent):
         self.room.process.send_signal(signal.SIGSTOP)
+        want(os.WIFSTOPPED(os.waitpid(self.room.process.pid, os.WUNTRACED)[1]), "it ended")
         for client, asked in sent:
             client.send(b"".join(asked))
         until = time.time() + PATIENCE
@@ -1431,11 +1432,15 @@ def row_order(room):
         (first, second), (third, last) = of_rows.at_once([(client, [asked, again]), (other, [again, lir(5)])])[0]
         want(result(first) == "B2001" and second == third == first[:12] + again[12:16] + first[16:], "what comes twice at once gets two answers")
         want(result(last) == "X2003" and len(room.used()) - used == len(rands(first)), "what comes twice at once uses vectors up twice")
+    known = mar(5)
+    first = client.ask(known)
+    want(of_rows.at_once([(client, [lir(1), known, uar(3), known])])[0][0][1] == first, "what came before gets another answer between those of a row")
     # Peers by either base standard at once: each has its own, and what each of them alters is on disk.
     for users in (6, 7), (8, 9):
         asked = [(client, [sar(users[0], 1), lir(users[0], vendors=2)]), (gateway, [lir(1), lir(1, vendors=2)])]
         (mine, twofold), (theirs, refused) = of_rows.at_once(asked)[0]
         want([result(one) for one in (mine, twofold, theirs, refused)] == ["B2001", "B2001", "X2003", "B5009"], "two base standards at once")
+        want(room.lines()[b"sip:user%d@isle" % users[0]][0] == 1, "what the first of two alters is not on disk")
         (mine,), (theirs,) = of_rows.at_once([(client, [lir(1)]), (gateway, [sar(users[1], 1)])])[0]
         want(result(theirs) == "B2001" and all(room.lines()[b"sip:user%d@isle" % user][0] == 1 for user in users), "what one of two alters is not on disk")
     # Whoever closes its side has what it asked for.

@@ -165,7 +165,7 @@ with 'a table beside ours that is never looked for' taken daemon.c 's/^    look_
 with 'what alters while a table is taken over' taken daemon.c 's/^    if (!base \&\& files.taking.under_way \&\& may_alter(message)) return 0;.*//'
 with 'a table of which only half is ours, taken for one that was laid over it' taken files.c 's/^    if (files->taking.under_way) return;//'
 with 'a take-over that fails, and is left so' taken taking.c '/^static void give_up/,/^}/{s/^    files->laid_over = 1;//; s/^    lay_back(files);//}'
-with 'an end within a take-over' taken daemon.c 's/^    if (files.taking.under_way) go_on_taking(&files, 1);//'
+with 'an end within a take-over' taken daemon.c 's/^    if (files.taking.under_way) go_on_taking(&files, 1);/    if (files.taking.under_way) exit(0);/'
 with 'a table that is refused and taken over' taken taking.c 's/^    return ndushavire_taken(word) ? NULL : refusal_of(word, &t);/    return NULL;/'
 with 'a new table that is taken over and stays beside ours' taken taking.c 's/^    unlinkat(table->folder, next_name, 0);//'
 with 'a table that is answered from before it is on disk' taken_over_kills taking.c -e 's/^    if (!ndushavire_taken(word)) stop(.*//' \
