@@ -1447,7 +1447,7 @@ def row_order(room):
     asked = [of_rows.assignment(10 + number % 5) for number in range(150)]
     other.send(b"".join(asked))
     other.socket.shutdown(socket.SHUT_WR)
-    want(all(other.answer()[12:20] == one[12:20] for one in asked) and other.is_gone(), "what a peer sent before it closed is not answered")
+    want(all((other.answer() or b"")[12:20] == one[12:20] for one in asked) and other.is_gone(), "what a peer sent before it closed is not answered")
     room.end()
 
 
