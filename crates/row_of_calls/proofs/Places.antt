@@ -28,15 +28,15 @@ module _ (req t file v a : List ℕ) (terms : Terms) (w : List ℕ) (used served
       ap length (back-is a used a') ∙ length-append (take used a) a' ∙ ap (λ (m : ℕ). m + length a') (length-take-le used a h) in
       omega (arith, q .within, l)
 
-  pub serves-at : {d : Done} {t' v' a' w' : List ℕ} → used ≤ length a → 8 * served + 8 ≤ length w
+  pub serves-at : {d : Done} {t' v' a' w' : List ℕ} {end : ℕ} → end ≡ used + d .used → used ≤ length a → 8 * served + 8 ≤ length w
       → Serves (lent req t file v (part used a) terms) (part (8 * served) w) d t' v' a' w'
-      → ServesAt (lent req t file v a terms) w used served (record { used = used + d .used; altered = d .altered; marked = d .marked }) t' v' (back used a a')
+      → ServesAt (lent req t file v a terms) w used served (record { used = end; altered = d .altered; marked = d .marked }) t' v' (back used a a')
       (back (8 * served) w w')
-  serves-at {d} {t'} {v'} {a'} {w'} h k q =
+  serves-at {d} {t'} {v'} {a'} {w'} {end} e h k q =
       let o : Serves (lent req t file v (drop used a) terms) (drop (8 * served) w) d t' v' a' w' = rw (part-is a used, part-is w (8 * served)) at q in
       record {
-        used-is = ap (λ (m : ℕ). used + m) (o .used-is);
-        within = part-used h q;
+        used-is = e ∙ ap (λ (m : ℕ). used + m) (o .used-is);
+        within = rw e (part-used h q);
         room = omega (arith, k);
         altered-is = o .altered-is;
         marked-is = o .marked-is;

@@ -127,6 +127,14 @@ fn serve_one(
     done_of(came)
 }
 
+// The byte behind an answer of so many bytes, which ends within its area.
+fn past(used: usize, own: usize, end: usize) -> usize
+    requires { ⌜ used + own ≤ end ⌝ }
+    ensures { λ r. ⌜ r ≡ used + own ⌝ }
+{
+    used + own
+}
+
 // The same, where it stands: its answer and its word go behind those of the calls before.
 fn serve_at(
     h: Here,
@@ -154,7 +162,7 @@ fn serve_at(
         &mut words[from..],
     );
     Done {
-        used: used + d.used,
+        used: past(used, d.used, answers.len()),
         altered: d.altered,
         marked: d.marked,
     }

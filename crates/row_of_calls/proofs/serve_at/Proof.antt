@@ -5,6 +5,7 @@ use Rattle.row_of_calls.proofs.serve_at.Tie as tie
 use Rattle.row_of_calls.proofs.serve_at.Reads as reads
 use Rattle.row_of_calls.proofs.serve_at.Lts as lts
 use Rattle.row_of_calls.proofs.serve_one.Reads as serve-one-reads
+use Rattle.row_of_calls.proofs.past.Reads as past-reads
 
 -- src/lib.rt:146:16
 mul-from : tie.Need-mul-from
@@ -39,8 +40,8 @@ serve-one-requires : tie.Need-serve-one-requires
 serve-one-requires c κs = search needs
 
 -- src/lib.rt:157:15
-add-t16 : tie.Need-add-t16
-add-t16 c = search (needs, part-used)
+past-requires : tie.Need-past-requires
+past-requires c κs = search (needs, part-used)
 
 -- src/lib.rt:131:1
 same-length : tie.Need-same-length
@@ -74,7 +75,7 @@ serve-at-spec =
     part-serve-one-start-2
     part-serve-one-end-2
     serve-one-requires
-    add-t16
+    past-requires
     same-length
     same-length-2
     same-length-3
