@@ -41,7 +41,7 @@ use Rattle.worked_examples.proofs.Sample.{block}
 use Rattle.report_example.proofs.Calls.{lir, removal, strayed, file, here, gone, messages, each, sound-here, sound-gone, lending, comes}
 use Rattle.report_example.proofs.Cards.{mar, fresh}
 use Rattle.row_laws.specs.Reads.{rowIn, ReadsRow, alteredIn, markedIn}
-use Rattle.row_laws.specs.Turns.{servedOf, lentAfter, lentTo, AsksAbout, answersBy, written, goingOn, wordsLeft, joined, turnsOf}
+use Rattle.row_laws.specs.Turns.{servedOf, lentAfter, lentTo, AsksAbout, wordsBy, answersBy, answersLong, written, goingOn, wordsLeft, joined, turnsOf}
 use Rattle.row_laws.proofs.Ends.{row-few, area-room}
 use Rattle.row_laws.proofs.Ends as ends-of
 use Rattle.row_laws.proofs.Rows as rows
@@ -106,6 +106,10 @@ decided =
 
 met-lent : lentTo month second .buffer ≡ drop (length (answersBy month (lir ∷ []))) area
 met-lent = rows.row-lent month words second .0
+
+met-where : length (answersBy month (lir ∷ [])) ≡ 132
+unfolding wordsBy answersLong
+met-where = rows.row-where month words second ∙ ap (λ (s : Served). answersLong (callWord (s .call) ∷ [])) (found-served area big)
 
 met-word : take 8 (drop 8 (rowed month words .words)) ≡ longBytes 116
 met-word = rows.row-word month words second decided
