@@ -1,6 +1,6 @@
 -- The word that a call returns: its number times 2^48, the place of the AVP at fault times 2^32, and what it returns besides below that.
 use Prim.Native.Nat.{ℕ, _+_}
-use mathlib.Core.Bool.{cond}
+use mathlib.Core.Bool.{Bool, cond}
 use Rattle.moving.specs.declared.Move.{Move}
 use Rattle.moving.specs.declared.Move.the-variants as move
 use Rattle.moving.specs.declared.Move.the-variants.{Moved}
@@ -10,6 +10,7 @@ use Rattle.taking.specs.declared.Taken.the-variants.{Took}
 use Rattle.blocks.specs.declared.Checked.{Checked}
 use Rattle.blocks.specs.declared.Checked.the-variants.{Sound, Bad}
 use Rattle.row_of_calls.specs.Row.{Rowed}
+use Rattle.row_of_calls.specs.declared.Ended.{Ended}
 pub use Rattle.row_of_calls.specs.Word.{numberUnit, placeUnit, word, callWord}
 
 -- a sound file: number 0 with the count; an unsound one: its refusal's number (the table's is 5, the vector file's 6), with the first bad block
@@ -26,6 +27,13 @@ abbrev pub takeWord : Taken → ℕ
 takeWord (Took count) = word 0 0 count
 takeWord (take.Refused number) = word number 0 0
 
--- the row's: in the place 1 if some request altered a record, 2 if some vector was marked, 3 if both; as the value, how many requests have a word
+-- the row's: in the place 1 if some request altered a record, 2 if some vector was marked, 3 if both; as the value, how many requests have a word. The same
+-- from what the code says of it
+abbrev pub markOf : Bool → Bool → ℕ
+markOf altered marked = cond altered 1 0 + cond marked 2 0
+
 abbrev pub rowWord : Rowed → ℕ
-rowWord r = word (r .number) (cond (r .altered) 1 0 + cond (r .marked) 2 0) (r .served)
+rowWord r = word (r .number) (markOf (r .altered) (r .marked)) (r .served)
+
+abbrev pub endedWord : Ended → ℕ
+endedWord e = word (e .number) (markOf (e .altered) (e .marked)) (e .served)

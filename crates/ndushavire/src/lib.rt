@@ -7,14 +7,16 @@ use calling::Came;
 use diameter::codes;
 use moving::Move;
 use reading::Terms;
+use row_of_calls::Ended;
 use taking::Taken;
 ghost use mathlib.Core.Path.{_≡_};
 ghost use Rattle.requests.specs.Request.{underCx};
 ghost use Rattle.calling.specs.Leaves.{callOf};
 ghost use Rattle.calling.specs.Lent.{lent};
-ghost use Rattle.ndushavire.specs.Word.{checkWord, callWord, moveWord, takeWord};
+ghost use Rattle.ndushavire.specs.Word.{checkWord, callWord, moveWord, takeWord, endedWord};
 ghost use Rattle.ndushavire.specs.Promise.{CheckPromise, CheckVectorsPromise, DecidePromise, ReportPromise};
 ghost use Rattle.ndushavire.specs.Promise.{ForwardPromise, BackPromise, TakePromise, VersionPromise};
+ghost use Rattle.ndushavire.specs.Promise.{RowPromise};
 
 // The word of a check's answer: a bad block has the refusal's number.
 fn check_word(number: u16, c: Checked) -> u64
@@ -181,4 +183,39 @@ pub extern "C" fn ndushavire_version() -> u32
     ensures { λ r. ⌜ VersionPromise r ⌝ }
 {
     VERSION
+}
+
+// The word of a row: what it altered is in the place, a bit for records and one for vectors.
+fn row_word(e: Ended) -> u64
+    ensures { λ r. ⌜ r ≡ endedWord e ⌝ }
+{
+    let records = if e.altered { 1 } else { 0 };
+    let vectors = if e.marked { 2 } else { 0 };
+    word::of(e.number, records + vectors, e.served)
+}
+
+// The row, our own entry: requests laid end to end, served in turn, at the price of one check of the table and the vectors. Each has in `words` the word that
+// `ndushavire_decide` would return, of 8 bytes, the highest first, and its answer, if it has one, in `answers`, right behind the one before.
+#[no_mangle]
+pub extern "C" fn ndushavire_row(
+    requests: &[u8],
+    table: &mut [u8],
+    profile: &[u8],
+    vectors: &mut [u8],
+    answers: &mut [u8],
+    words: &mut [u8],
+    peer: u32,
+    features: u32,
+) -> u64
+    ensures { λ r. ⌜ RowPromise
+        (lent (now (requests .entry)) (now (table .entry)) (now (profile .entry)) (now (vectors .entry)) (now (answers .entry)) (underCx peer features))
+        (now (words .entry))
+        r (now (table .exit)) (now (vectors .exit)) (now (answers .exit)) (now (words .exit)) ⌝ }
+{
+    let terms = Terms {
+        application: codes::CX,
+        peer,
+        features,
+    };
+    row_word(row_of_calls::row(requests, table, profile, vectors, answers, words, terms))
 }

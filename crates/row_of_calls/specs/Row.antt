@@ -8,7 +8,7 @@ use Rattle.octets.specs.Name.{same}
 use Rattle.counting.specs.Words.{longBytes}
 use Rattle.calling.specs.Call.{Call, Answered, Refused}
 use Rattle.calling.specs.Lent.{Lent, lent, asking, tableOnly}
-use Rattle.calling.specs.Serve.{smallBuffer, serve}
+use Rattle.calling.specs.Serve.{serve}
 use Rattle.reporting.specs.Pieces.{pieces}
 use Rattle.reporting.specs.Report.{ended}
 use Rattle.reporting.specs.Row.{recordsAltered}
@@ -38,9 +38,9 @@ alters x = ltb 0 (recordsAltered (tableOnly x))
 abbrev pub marks : Lent → Bool
 marks x = not (same (x .vectors) (serve x .vectors))
 
--- no room for one more: in what is left of `answers`, for any answer; of `words`, for 8 bytes; of `most`, the words that may still be written
-abbrev pub noRoom : List ℕ → List ℕ → ℕ → Bool
-noRoom answers words most = smallBuffer answers || (ltb (length words) 8 || eqb most 0)
+-- no room for one more: in so many bytes that are left of `answers`, for any answer; of `words`, for 8; in so many words that may still be written
+abbrev pub noRoom : ℕ → ℕ → ℕ → Bool
+noRoom answers words most = ltb answers 36864 || (ltb words 8 || eqb most 0)
 
 -- The row ends here, by such a number: what is lent stays as it is. What a row is lent is lent to each call, but its requests one by one; as the buffer, what
 -- is left of `answers`.
@@ -82,7 +82,7 @@ before x r =
 unfoldable pub rowFrom : ℕ → Lent → List ℕ → ℕ → List (List ℕ) → Rowed
 rowFrom end x words most [] = ends end x words
 rowFrom end x words most (p ∷ ps) =
-    cond (noRoom (x .buffer) words most) (ends 15 x words) (before (asking x p) (rowFrom end (next x p) (drop 8 words) (most - 1) ps))
+    cond (noRoom (length (x .buffer)) (length words) most) (ends 15 x words) (before (asking x p) (rowFrom end (next x p) (drop 8 words) (most - 1) ps))
 
 -- The row of a file of requests lent as the request: 0 at the file's end, 7 where a report would stop; 4,294,967,295 words at most.
 abbrev pub rowed : Lent → List ℕ → Rowed
