@@ -1,5 +1,5 @@
 -- The word of a call as bytes: the number and the place in its first four, the value in its last four.
-use Rattle.octets.specs.Standard.{ℕ, _+_, _*_, _/_, _%_, _≤_, _<_, List, [], _∷_, _≡_, refl, ap, _∙_, arith, length}
+use Rattle.octets.specs.Standard.{ℕ, _+_, _*_, _/_, _%_, _≤_, _<_, List, [], _∷_, _≡_, arith, length}
 use Rattle.octets.specs.Number.{putBe32}
 use Rattle.octets.specs.Run.{Wrote}
 use Rattle.octets.proofs.Writes.{over-sets}
