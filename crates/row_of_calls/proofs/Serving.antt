@@ -44,7 +44,8 @@ module _ (x : Lent) where
   -- a refusal leaves the table and the vectors as they came
   refused-keeps : IsRefusal (serveTable x .call) → (serveTable x .table ≡ x .table) × (serveTable x .vectors ≡ x .vectors)
   unfolding refused answeredBy
-  refused-keeps = serve-by x (λ (s : Served). IsRefusal (s .call) → (s .table ≡ x .table) × (s .vectors ≡ x .vectors)) (λ r a b h. (refl, refl)) (λ k h. absurd h)
+  refused-keeps =
+      serve-by x (λ (s : Served). IsRefusal (s .call) → (s .table ≡ x .table) × (s .vectors ≡ x .vectors)) (λ r a b h. (refl, refl)) (λ k h. absurd h)
 
   -- an answer marks vectors by its command and result
   answered-marks : IsAnswer (serveTable x .call)
