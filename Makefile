@@ -12,8 +12,8 @@ SHELL := /bin/bash
 endif
 .DELETE_ON_ERROR:
 export PYTHONDONTWRITEBYTECODE := 1
-.PHONY: help run test quick clean fmt kit pages header examples tables texts aims stores programs reference installs cited narrow bench stack installable install uninstall
-.PHONY: unsound reports moves takes cuts recipes daemon peers differential plain noticed soak mutants stats definitions-check cases
+.PHONY: help run test quick clean fmt kit pages header examples tables texts aims stores programs reference installs cited narrow bench served stack installable install uninstall
+.PHONY: unsound reports moves takes cuts recipes daemon peers differential plain rows noticed soak mutants stats definitions-check cases
 .PHONY: voicemail documents parsed promises spreadsheet
 
 MACHINE := $(shell uname -m)
@@ -203,13 +203,14 @@ ifndef SEED
 SEED := $(shell od -An -N4 -tu4 /dev/urandom | tr -d ' ')
 endif
 DRIVER = $(RUN) target/c99/driver
-KINDS := tables vectors calls plain voicemail reports moves takes lists demand3 demand3-voicemail neighbours neighbours-voicemail runs
+KINDS := tables vectors calls plain voicemail reports rows moves takes lists demand3 demand3-voicemail neighbours neighbours-voicemail runs
 COUNT_tables := 200000
 COUNT_vectors := 100000
 COUNT_calls := 100000
 COUNT_plain := 20000
 COUNT_voicemail := 100000
 COUNT_reports := 20000
+COUNT_rows := 20000
 COUNT_moves := 50000
 COUNT_takes := 50000
 COUNT_lists := 50000
@@ -227,7 +228,7 @@ cited: $(ARCHIVES) $(PROGRAMS)
 recipes: $(ARCHIVES) $(PROGRAMS) $(OVER_ARCHIVE) target/c99/decide target/c99/userdata
 	RUN='$(RUN)' tests/recipes.sh target/test/recipes '$(PROGRAM)' $(X86_CC)
 
-#: differential       the libraries beside the independent program on 880,000 new cases, of which 20,000 go to both engines, and 2,000 runs of calls; SEED=N runs a seed again
+#: differential       the libraries beside the independent program on 900,000 new cases, of which 20,000 go to both engines, and 2,000 runs of calls; SEED=N runs a seed again
 differential: target/c99/driver $(BINARY)
 	@for of in $(foreach kind,$(KINDS),$(kind):$(COUNT_$(kind))); do \
 	    echo "differential run: seed $(SEED), $${of#*:} $${of%:*}"; \
@@ -235,7 +236,7 @@ differential: target/c99/driver $(BINARY)
 	done
 
 COUNT_narrow := 10000
-#: narrow             requests that real software sent, 10,000 calls, and 1,000 calls of both engines, of Sh, reports, checks, moves, take-overs and lists on a thread whose stack is 16 KiB; half a minute
+#: narrow             requests that real software sent, 10,000 calls, and 1,000 calls of both engines, of Sh, reports, rows, checks, moves, take-overs and lists on a thread whose stack is 16 KiB; half a minute
 narrow: target/narrow/decide target/narrow/driver target/c/maketable $(BINARY)
 	RUN='$(RUN)' tests/captured.sh target/test/narrow target/c/maketable $(BINARY) target/narrow/decide
 	tests/narrow.sh $(BINARY) $(SEED) $(COUNT_narrow) $(RUN) target/narrow/driver
@@ -252,6 +253,12 @@ COUNT_engines := 1000000
 plain: target/c99/driver $(BINARY)
 	@echo "plain: seed $(SEED), $(COUNT_engines) calls of either engine"
 	$(BINARY) compare --kind plain --seed $(SEED) --count $(COUNT_engines) -- $(DRIVER)
+
+COUNT_compared := 1000000
+#: rows               the row beside the independent program, word, words, answers, table and vectors, on 1,000,000 rows; COUNT_compared=N
+rows: target/c99/driver $(BINARY)
+	@echo "rows: seed $(SEED), $(COUNT_compared) rows"
+	$(BINARY) compare --kind rows --seed $(SEED) --count $(COUNT_compared) -- $(DRIVER)
 
 #: cuts               the whole of that, two minutes: 1,000,000 sets of blocks, 1,000 kills within a table of 4,096, and some of it with files on disk
 cuts: target/c99/takes target/c99/cuts target/c99/take target/c99/cut-take
@@ -299,6 +306,7 @@ stats: $(BINARY)
 	$(BINARY) stats --kind calls --seed $(SEED) --count $(COUNT_calls)
 	$(BINARY) stats --kind voicemail --seed $(SEED) --count $(COUNT_voicemail)
 	$(BINARY) stats --kind reports --seed $(SEED) --count $(COUNT_reports)
+	$(BINARY) stats --kind rows --seed $(SEED) --count $(COUNT_rows)
 	$(BINARY) stats --kind moves --seed $(SEED) --count $(COUNT_moves)
 	$(BINARY) stats --kind takes --seed $(SEED) --count $(COUNT_takes)
 	$(BINARY) stats --kind lists --seed $(SEED) --count $(COUNT_lists)
@@ -376,7 +384,7 @@ target/c99/driver: tests/driver.c $(HEADER) $(SH_HEADER) $(ARCHIVES)
 target/c99/overstep: tests/overstep.c tests/driver.c $(HEADER) $(SH_HEADER) $(ARCHIVES)
 	mkdir -p $(@D)
 	$(X86_CC) -std=c99 $(STRICT) -Wl,--wrap=ndushavire_check,--wrap=ndushavire_check_vectors,--wrap=ndushavire_plain,--wrap=ndushavire_sh_decide \
-	    -Wl,--wrap=ndushavire_export,--wrap=ndushavire_import -o $@ \
+	    -Wl,--wrap=ndushavire_row,--wrap=ndushavire_export,--wrap=ndushavire_import -o $@ \
 	    tests/overstep.c tests/driver.c $(ARCHIVES)
 
 target/narrow/driver: tests/driver.c
@@ -385,7 +393,7 @@ target/narrow/decide: examples/decide.c examples/load.h examples/fault.h example
 target/narrow/driver target/narrow/decide: tests/narrow.c $(HEADER) $(SH_HEADER) $(ARCHIVES)
 	mkdir -p $(@D)
 	$(X86_CC) -std=c99 $(STRICT) -pthread -Wl,-z,now \
-	    $(foreach entry,check check_vectors decide plain report forward back take export import sh_decide,-Wl,--wrap=ndushavire_$(entry)) -o $@ $(filter %.c,$^) $(ARCHIVES)
+	    $(foreach entry,check check_vectors decide plain report row forward back take export import sh_decide,-Wl,--wrap=ndushavire_$(entry)) -o $@ $(filter %.c,$^) $(ARCHIVES)
 
 target/c99/version: tests/version.c $(HEADER) $(ARCHIVE)
 	mkdir -p $(@D)
@@ -418,7 +426,10 @@ target/c99/month: tests/month.c bench/requests.h examples/load.h $(HEADER) $(ARC
 	$(X86_CC) -std=c99 $(STRICT) -o $@ $< $(ARCHIVE)
 
 # The two that answer Sh requests are linked with both archives.
-target/c99/daemon: $(addprefix examples/,base.h files.h log.h remember.h taking.h)
+DAEMON := $(addprefix examples/,daemon.c files.c log.c row.c taking.c area.h base.h fault.h files.h log.h peers.h remember.h row.h stated.h store.h taking.h)
+target/c99/daemon: $(DAEMON) $(HEADER) $(ARCHIVE)
+	mkdir -p $(@D)
+	$(X86_CC) -std=c99 $(STRICT) -o $@ $(filter %.c %.a,$^)
 $(foreach mode,c99 cxx,$(addprefix target/$(mode)/,daemon userdata)): $(SH_HEADER) $(SH_ARCHIVE)
 target/c99/%: examples/%.c examples/load.h examples/fault.h examples/hex.h examples/peers.h examples/stated.h examples/store.h examples/newfile.h examples/area.h $(HEADER) $(ARCHIVE)
 	mkdir -p $(@D)
@@ -448,7 +459,7 @@ LISTED := 4096-short-2 4096-long-2 4096-short-2-4 4096-long-2-4 4096-alike-2-4
 samples = $(foreach size,$(1),target/bench/$(size).table target/bench/$(size).profile $(word 2,$(subst -, ,$(size))))
 
 #: bench              times beside the aims, and what the plain engine takes beside the quick one, two minutes once their parts are made; a missed aim is marked
-bench: $(addprefix target/bench/,check vectors moves takes list decide plain report) $(patsubst %,target/bench/%.table,$(sort $(CHECKED) $(SECOND) $(TAKEN) $(LISTED) $(DECIDED)))
+bench: $(addprefix target/bench/,check vectors moves takes list decide plain report row) $(patsubst %,target/bench/%.table,$(sort $(CHECKED) $(SECOND) $(TAKEN) $(LISTED) $(DECIDED)))
 	@{ $(CC) --version | head -n 1; \
 	   target/bench/check $(call samples,$(CHECKED) $(SECOND)); \
 	   target/bench/moves $(call samples,$(CHECKED)); \
@@ -457,8 +468,23 @@ bench: $(addprefix target/bench/,check vectors moves takes list decide plain rep
 	   target/bench/vectors $(call samples,$(CHECKED)); \
 	   target/bench/decide $(call samples,$(DECIDED)); \
 	   target/bench/plain $(call samples,$(PLAINLY)); \
-	   target/bench/report $(call samples,$(REPORTED)); } | tee target/bench/figures
+	   target/bench/report $(call samples,$(REPORTED)); \
+	   target/bench/row $(call samples,$(REPORTED)); } | tee target/bench/figures
 	@bench/summary.sh target/bench/figures
+
+SERVED := 300-short 4096-short
+#: served             durable SARs and UARs a second over loopback, 64 outstanding: a daemon with a store for each beside one with rows, half a minute; on the disk of target/
+served: $(addprefix target/bench/,served daemon-1 daemon-64) $(SERVED:%=target/bench/%.table)
+	bench/served.sh target/bench/room $(addprefix target/bench/,served daemon-1 daemon-64) 3 $(SERVED) | tee target/bench/rates
+	@bench/summary.sh target/bench/rates
+
+target/bench/daemon-%: $(DAEMON) $(HEADER) $(SH_HEADER) $(TIMED)
+	mkdir -p $(@D)
+	$(CC) -std=c99 $(STRICT) -DROW_MOST=$* -o $@ $(filter %.c %.a,$^)
+
+target/bench/served: bench/served.c bench/requests.h examples/load.h $(HEADER)
+	mkdir -p $(@D)
+	$(CC) -std=c99 $(STRICT) -o $@ $<
 
 STACKED := 16-short 4096-short 4096-long 4096-tiny 4096-short-2-4 4096-long-2-4
 #: stack              how much stack a call takes, beside the aim; and how much where what it calls is bound lazily
@@ -491,7 +517,8 @@ target/bench/check target/bench/vectors: target/bench/%: bench/%.c $(TIMER) $(SU
 target/bench/decide: bench/decide.c $(TIMER)
 	$(CC) -std=c99 $(STRICT) -o $@ $< $(TIMED) target/bench/libreference_c.a -lpthread -ldl -lm
 
-target/bench/report target/bench/moves target/bench/takes target/bench/list target/bench/plain: target/bench/%: bench/%.c $(TIMER)
+target/bench/report target/bench/row: bench/months.h
+target/bench/report target/bench/row target/bench/moves target/bench/takes target/bench/list target/bench/plain: target/bench/%: bench/%.c $(TIMER)
 	$(CC) -std=c99 $(STRICT) -o $@ $< $(TIMED)
 
 # One program for both bindings: which it is says the environment that it is run in.

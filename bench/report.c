@@ -3,8 +3,7 @@
  * Every file leaves the table as it was, so that each call does the same work, and the vector file is empty. */
 #define _POSIX_C_SOURCE 199309L
 #include "aims.h"
-#include "requests.h"
-#include "samples.h"
+#include "months.h"
 #include "timing.h"
 
 enum { MORE = 1000, FEW = 100000, MANY = 1000000, TRIES = 3, KINDS_MOST = 3 };
@@ -12,15 +11,7 @@ enum { MORE = 1000, FEW = 100000, MANY = 1000000, TRIES = 3, KINDS_MOST = 3 };
 /* The aims: a request more that alters nothing at the most records, against its decision; ten times as many requests. */
 static const Aim NONE = {"", 0}, MORE_AIM = {"<= 0.1", 10}, MANY_AIM = {"<= 11", 1100};
 
-/* Requests of some kinds in turn, laid end to end, and how long the first few of them are, and all. */
-typedef struct {
-    const Sample *of;
-    const Request *kinds;
-    uint8_t *file;
-    size_t few, many;
-} Month;
-
-static uint8_t answer[NDUSHAVIRE_ANSWER_ROOM], numbers[NDUSHAVIRE_REPORT_ROOM], nothing;
+static uint8_t numbers[NDUSHAVIRE_REPORT_ROOM];
 
 static uint64_t report(const Month *m, size_t length) {
     return ndushavire_report(m->file, length, m->of->table, m->of->table_len, m->of->profile, m->of->profile_len, &nothing, 0, answer,
@@ -28,31 +19,6 @@ static uint64_t report(const Month *m, size_t length) {
 }
 static uint64_t few(const void *month) { return report((const Month *)month, ((const Month *)month)->few); }
 static uint64_t many(const void *month) { return report((const Month *)month, ((const Month *)month)->many); }
-
-static uint64_t decide_kind(const Month *m, int kind) {
-    const Request *r = m->kinds + kind;
-    return ndushavire_decide(r->bytes, r->length, m->of->table, m->of->table_len, m->of->profile, m->of->profile_len, &nothing, 0, answer,
-                             sizeof answer, NDUSHAVIRE_RFC_6733, NDUSHAVIRE_NO_FEATURES);
-}
-static uint64_t decide_one(const void *month) { return decide_kind((const Month *)month, 0); }
-static uint64_t decide_two(const void *month) { return decide_kind((const Month *)month, 0) + decide_kind((const Month *)month, 1); }
-
-/* So many requests of these kinds in turn, and the length of the first few of them. */
-static Month lay(const Sample *s, const Request *kinds, int turns, size_t count, size_t first) {
-    size_t longest = 0, used = 0;
-    Month m = {s, kinds, NULL, 0, 0};
-    for (int kind = 0; kind < turns; kind++) longest = kinds[kind].length > longest ? kinds[kind].length : longest;
-    m.file = (uint8_t *)malloc(count * longest);
-    if (m.file == NULL) abort();
-    for (size_t i = 0; i < count; i++) {
-        const Request *r = kinds + i % (size_t)turns;
-        if (i == first) m.few = used;
-        memcpy(m.file + used, r->bytes, r->length);
-        used += r->length;
-    }
-    m.many = used;
-    return m;
-}
 
 /* Whether all of them are read and answered with a success, so many records are altered, and the table is as it was: a wrong report is not
  * worth a time. */

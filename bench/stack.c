@@ -47,6 +47,13 @@ static void report(void) {
                              sizeof answer, numbers, sizeof numbers, NDUSHAVIRE_RFC_6733, NDUSHAVIRE_NO_FEATURES);
 }
 
+enum { ROW_MOST = 16 };
+static void row(void) {
+    static uint8_t answers[ROW_MOST * NDUSHAVIRE_ANSWER_ROOM], words[ROW_MOST * NDUSHAVIRE_ROW_WORD];
+    word = ndushavire_row(month, month_len, s->table, s->table_len, s->profile, s->profile_len, vectors.bytes, vectors.length, answers,
+                          sizeof answers, words, sizeof words, NDUSHAVIRE_RFC_6733, NDUSHAVIRE_NO_FEATURES);
+}
+
 static uint8_t fresh[NDUSHAVIRE_TABLE_MAX], area[NDUSHAVIRE_TABLE_MAX]; /* the table in edition 2, and nothing, or what was taken over before */
 static void take(void) { word = ndushavire_take(area, s->table_len, fresh, s->table_len, s->profile, s->profile_len); }
 
@@ -65,7 +72,7 @@ static struct {
     size_t most;
 } entries[] = {{check, "check", 0}, {check_vectors, "vector check", 0}, {forward, "move forward", 0},
                {back, "move back", 0}, {take, "take-over", 0}, {export_list, "export", 0}, {import_list, "import", 0},
-               {decide, "decide", 0}, {plain, "plain engine", 0}, {report, "report", 0}, {sh_decide, "Sh", 0}};
+               {decide, "decide", 0}, {plain, "plain engine", 0}, {report, "report", 0}, {row, "row", 0}, {sh_decide, "Sh", 0}};
 enum { ENTRIES = sizeof entries / sizeof entries[0] };
 static int lazily, sets; /* how memset and the like are bound; whether the table has sets, for which the check has more to call */
 static uint32_t due;     /* the number that the calls return */
@@ -114,13 +121,19 @@ static int decides(const char *what) {
     return passes & passes_too & (word == quick);
 }
 
-/* A report over all of them, of which none is refused: a refused one would tell little. */
+/* A report over all of them, of which none is refused: a refused one would tell little; and a row, over what the report found. */
 static int reports(void) {
+    static uint8_t table[NDUSHAVIRE_TABLE_MAX], file[NDUSHAVIRE_VECTOR_FILE_MAX];
+    memcpy(table, s->table, s->table_len);
+    memcpy(file, vectors.bytes, vectors.length);
     const int passes = within(report, "report");
     const uint64_t read = ndushavire_report_word(numbers, NDUSHAVIRE_REPORT_READ);
-    const int answered = read > 1 && ndushavire_report_word(numbers, NDUSHAVIRE_REPORT_ANSWERED) == read;
-    if (!answered) fprintf(stderr, "stack: the report's requests are not answered\n");
-    return passes & answered;
+    memcpy(s->table, table, s->table_len);
+    memcpy(vectors.bytes, file, vectors.length);
+    const int passes_too = within(row, "row");
+    const int answered = read > 1 && ndushavire_report_word(numbers, NDUSHAVIRE_REPORT_ANSWERED) == read && ndushavire_value(word) == read;
+    if (!answered) fprintf(stderr, "stack: the requests of the report or of the row are not answered\n");
+    return passes & passes_too & answered;
 }
 
 /* Whether the first and the last of the vectors that an answer can send are marked: another answer would tell little. */

@@ -3,8 +3,8 @@
  * By the standard Origin-Host and End-to-End Identifier tell a request from every other for four minutes. A client that is wrong there
  * would be sent another request's answer, so here the whole request is compared, but for what relays alter: the T flag, the
  * Hop-by-Hop Identifier, Route-Record (282) and Proxy-Info (284).
- * Only SARs and MARs are remembered: a UAR, a LIR or a UDR alters nothing, whenever it comes, and is decided again. Answers whose calls altered a
- * file and those whose calls altered none stand in two rows, so that these, which cost no disk and may be many, never push out those.
+ * Only SARs and MARs are remembered: a UAR, a LIR or a UDR alters nothing, whenever it comes, and is decided again. Answers of rows that altered a
+ * file and those of rows that altered none stand in two queues, so that these, which cost no disk and may be many, never push out those.
  * Answers to MARs have keys in them: they are kept in memory alone, which is gone with the process. */
 #ifndef REMEMBER_H
 #define REMEMBER_H
@@ -18,27 +18,27 @@
 
 enum { REMEMBERED_SECONDS = 300, CHAINS = 1 << 20, RETRANSMITTED = 0x10 };
 
-/* How many bytes the answers may take whose calls altered nothing, and those whose calls altered a file. Each of these cost a store: a file made and
- * flushed, renamed, and its folder flushed, two commits of the file system one after the other. A fast disk takes 0.1 ms for each: 5,000 answers
- * a second, 1.5 million in five minutes. With its request one takes 1 KiB, and with a profile of 4 KiB 5 KiB: then there is room for 1,300 a second. */
+/* How many bytes the answers may take whose rows altered nothing, and those whose rows altered a file. With its request one takes 1 KiB, and with a
+ * profile of 4 KiB 5 KiB: then there is room for 7,000 or 1,300 a second, over five minutes. A disk may store more than that in rows; whoever has such a load
+ * gives it more memory, and the log says when answers are forgotten before their time. */
 static size_t remembered_most[2] = {(size_t)64 << 20, (size_t)2 << 30};
 
 /* Behind it stand the request without what relays alter, and the answer. */
 typedef struct Remembered {
-    struct Remembered *next, *younger; /* of its chain; of its row */
+    struct Remembered *next, *younger; /* of its chain; of its queue */
     time_t since;
     uint32_t hash, request, answer; /* of the request; the lengths of both */
 } Remembered;
 
-/* A row has the oldest first: all are kept equally long. A chain has those of which the hash ends alike; pages of it that nobody has
+/* A queue has the oldest first: all are kept equally long. A chain has those of which the hash ends alike; pages of it that nobody has
  * written to take no memory. */
 typedef struct {
     Remembered *oldest, *youngest;
     size_t bytes;
-} Row;
+} Queue;
 static struct {
     Remembered *chain[CHAINS];
-    Row row[2]; /* 0: those that altered nothing, 1: those that altered a file */
+    Queue queue[2]; /* 0: those that altered nothing, 1: those that altered a file */
 } memory;
 
 static inline uint8_t *request_of(const Remembered *one) { return (uint8_t *)(one + 1); }
@@ -74,35 +74,35 @@ static inline uint32_t hash_of(const uint8_t *bytes, size_t length) {
     return hash;
 }
 
-static inline void forget_oldest(Row *row) {
-    Remembered *oldest = row->oldest, **at = &memory.chain[oldest->hash % CHAINS];
+static inline void forget_oldest(Queue *queue) {
+    Remembered *oldest = queue->oldest, **at = &memory.chain[oldest->hash % CHAINS];
     while (*at != oldest) at = &(*at)->next;
     *at = oldest->next;
-    row->oldest = oldest->younger;
-    row->bytes -= bytes_of(oldest);
+    queue->oldest = oldest->younger;
+    queue->bytes -= bytes_of(oldest);
     free(oldest);
 }
 
 static inline void forget_old(time_t now) {
-    for (Row *row = memory.row; row < memory.row + 2; row++)
-        while (row->oldest != NULL && now - row->oldest->since >= REMEMBERED_SECONDS) forget_oldest(row);
+    for (Queue *queue = memory.queue; queue < memory.queue + 2; queue++)
+        while (queue->oldest != NULL && now - queue->oldest->since >= REMEMBERED_SECONDS) forget_oldest(queue);
 }
 
-static inline void add_youngest(Row *row, Remembered *one) {
+static inline void add_youngest(Queue *queue, Remembered *one) {
     Remembered **chain = &memory.chain[one->hash % CHAINS];
     one->next = *chain;
     one->younger = NULL;
     *chain = one;
-    if (row->oldest == NULL) row->oldest = one;
-    else row->youngest->younger = one;
-    row->youngest = one;
-    row->bytes += bytes_of(one);
+    if (queue->oldest == NULL) queue->oldest = one;
+    else queue->youngest->younger = one;
+    queue->youngest = one;
+    queue->bytes += bytes_of(one);
 }
 
-/* Gives 0 if there is no room for all answers of five minutes: then the oldest of the row are forgotten before their time. */
+/* Gives 0 if there is no room for all answers of five minutes: then the oldest of the queue are forgotten before their time. */
 static inline int remember(time_t now, int altered, const uint8_t *request, size_t length, const uint8_t *answer, size_t answer_len) {
     const size_t most = remembered_most[altered != 0];
-    Row *row = &memory.row[altered != 0];
+    Queue *queue = &memory.queue[altered != 0];
     int room = 1;
     forget_old(now);
     Remembered *one = (Remembered *)malloc(sizeof *one + length + answer_len);
@@ -112,9 +112,15 @@ static inline int remember(time_t now, int altered, const uint8_t *request, size
     one->answer = (uint32_t)answer_len;
     one->hash = hash_of(request_of(one), one->request);
     memcpy(answer_of(one), answer, answer_len);
-    for (; row->oldest != NULL && row->bytes + bytes_of(one) > most; room = 0) forget_oldest(row);
-    add_youngest(row, one);
+    for (; queue->oldest != NULL && queue->bytes + bytes_of(one) > most; room = 0) forget_oldest(queue);
+    add_youngest(queue, one);
     return room;
+}
+
+/* The hash of a request without what relays alter. */
+static inline uint32_t request_hash(const uint8_t *request, size_t length) {
+    static uint8_t plain[NDUSHAVIRE_REQUEST_MAX];
+    return hash_of(plain, without_route(plain, request, length));
 }
 
 /* What was answered to this request, or NULL. */

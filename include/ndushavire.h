@@ -5,12 +5,12 @@
  * understand it. B2001 is the result 2001 as a base Result-Code, and X2001 the same number as an Experimental-Result of vendor 10415: they mean different
  * things.
  *
- * Who owns what. The caller owns every byte. All slices (request, table, profile, vectors, answer, requests, report, area, fresh, list, header) are lent
- * for the length of the call and none is kept: the library has no state of its own, opens no file, takes no memory and
+ * Who owns what. The caller owns every byte. All slices (request, table, profile, vectors, answer, requests, report, answers, words, area, fresh, list,
+ * header) are lent for the length of the call and none is kept: the library has no state of its own, opens no file, takes no memory and
  * starts nothing. The slices of one call must not overlap. Every pointer is non-null, also where its length is 0.
  * Only these write: ndushavire_decide, ndushavire_plain and ndushavire_report, to the answer, the table and the vectors, and the last also to its
- * report; ndushavire_forward and ndushavire_back, to their table; ndushavire_take, to its area; ndushavire_export, to its list, and ndushavire_import, to its
- * table. What must outlive the process is for the caller to store.
+ * report; ndushavire_row, to its answers, its words, the table and the vectors; ndushavire_forward and ndushavire_back, to their table; ndushavire_take, to
+ * its area; ndushavire_export, to its list, and ndushavire_import, to its table. What must outlive the process is for the caller to store.
  *
  * What a call can alter, of table and vectors; all of this is proved, so nobody has to compare files to see that nothing changed.
  * - ndushavire_decide alters the table only under a SAR (301) or a MAR (303) that is answered with a success, a result of 2xxx, B or X;
@@ -19,7 +19,8 @@
  *   leave both as they came. What it alters in a table: state, pending, server name and check word of records of the one private
  *   identity asked about, and so never the header or a length; in a vector file: the mark and the check word of the vectors sent.
  * - ndushavire_plain alters what ndushavire_decide alters.
- * - ndushavire_report alters both as its requests do, one after the other, and nothing under 15.
+ * - ndushavire_report alters both as its requests do, one after the other, and nothing under 15. ndushavire_row alters both as its requests do, up to
+ *   where it stops, and its word says which of the two it altered.
  * - ndushavire_forward and ndushavire_back write to every block of a table that they move, the edition, the issue number and the check
  *   word, and nothing if they refuse.
  * - ndushavire_take writes the new table over the front of its area, and nothing behind it; and nothing if it refuses.
@@ -27,18 +28,17 @@
  *   Both write nothing if they refuse.
  * - ndushavire_check and ndushavire_check_vectors alter nothing.
  *
- * Threads. A call is reentrant; it sets no errno and raises no signal. Calls on different tables and vectors may run at
- * once and share one profile. While a call runs that writes, no one else may read or write its table or area, its vectors, its answer,
- * its report or its list. Checks of one table, or of one vector file, may run beside each other, and so may calls of ndushavire_sh_decide, and
- * exports of one table, each to a list of its own.
+ * Threads. A call is reentrant; it sets no errno and raises no signal. Calls on different tables and vectors may run at once and share one profile. While a
+ * call runs that writes, no one else may read or write its table or area, its vectors, its answer or answers, its words, its report or its list. Checks of
+ * one table, or of one vector file, may run beside each other, and so may calls of ndushavire_sh_decide, and exports of one table, each to a list of its own.
  *
  * The profile file is what call servers are sent of each line: bytes without a structure of their own, into which the
  * table's records point. Table and profile file are a pair, made, checked and kept together.
  *
- * The working area. A table may lie in an area that is longer than it: ndushavire_decide, ndushavire_plain, ndushavire_check and ndushavire_report
- * take one of at least 512 x (count + 1) bytes, and look at nothing past that, neither blocks nor a last piece of under 512 bytes. What stands there stays
- * and does not matter. A shorter one has block 0 bad. Everything else that takes a table takes it alone, of its exact length: both
- * moves, the new table of a take-over, and an export.
+ * The working area. A table may lie in an area that is longer than it: ndushavire_decide, ndushavire_plain, ndushavire_row, ndushavire_check and
+ * ndushavire_report take one of at least 512 x (count + 1) bytes, and look at nothing past that, neither blocks nor a last piece of under 512 bytes. What
+ * stands there stays and does not matter. A shorter one has block 0 bad. Everything else that takes a table takes it alone, of its exact length: both moves,
+ * the new table of a take-over, and an export.
  *
  * Editions of a table. A table is of edition 1, or of edition 2, which has an issue number in every block and in each record the number
  * of an implicit set, 0 for none. One that mixes editions or issue numbers is unsound. Every function reads both editions, but for the new
@@ -53,6 +53,10 @@
  * used or not. A call that sends vectors marks their blocks as used, and no block is sent twice. The caller stores the file before
  * the answer goes out, and never lends an older one again: that would send vectors a second time. A file of no bytes (length 0)
  * has no vectors; a daemon for lines without cards lends that.
+ *
+ * The row. ndushavire_row answers many requests in one call, each over what the one before left, as so many calls of ndushavire_decide would. The table
+ * and the vectors are found sound once for all of them, and the caller stores each once for all of them: before the first answer of the row goes out, the
+ * vectors first. docs/ROW.md says when a daemon wants it.
  *
  * The month's numbers. ndushavire_report decides a whole file of requests again and counts. It alters its table and marks its
  * vectors as those decisions did, so it is lent copies from before the first of them, and never the live ones.
@@ -104,8 +108,8 @@
 extern "C" {
 #endif
 
-#define NDUSHAVIRE_VERSION "0.16.0"
-#define NDUSHAVIRE_VERSION_NUMBER 1600 /* the same to compare: major x 10,000 + minor x 100 + patch */
+#define NDUSHAVIRE_VERSION "0.17.0"
+#define NDUSHAVIRE_VERSION_NUMBER 1700 /* the same to compare: major x 10,000 + minor x 100 + patch */
 
 #define NDUSHAVIRE_ANSWER_ROOM 36864       /* the least answer buffer, in bytes: no answer is longer */
 #define NDUSHAVIRE_REQUEST_MIN 20          /* the shortest request, a Diameter header alone */
@@ -116,6 +120,7 @@ extern "C" {
 #define NDUSHAVIRE_VECTORS_MAX 4096        /* the most vectors of a vector file */
 #define NDUSHAVIRE_VECTOR_FILE_MAX 2097152 /* the longest vector file, in bytes */
 #define NDUSHAVIRE_REPORT_ROOM 1160        /* the least report area, in bytes: its 145 words of 64 bits */
+#define NDUSHAVIRE_ROW_WORD 8              /* what a request of a row takes of the words, in bytes */
 #define NDUSHAVIRE_LIST_MAX 3440761        /* no list is longer, in bytes: its first line of 121, and one of up to 840 for each of the most records */
 
 /* The editions of the base standard, by the numbers of their RFCs, one of which the daemon states for each peer. Under RFC 6733 a
@@ -129,8 +134,9 @@ extern "C" {
 
 /* Each function but ndushavire_version returns a word. Keep it in a uint64_t: an int loses the number, and a refusal then looks like a short
  * answer. Its number is 0, or why the call was refused; a refused call has written nothing, but for number 7, which comes
- * at a report's end. Later versions add numbers: every one but 0, known or not, is a refusal. */
-#define NDUSHAVIRE_DONE 0               /* answered; of a check, sound; of a report, the requests read to their end; moved; taken over; exported; imported */
+ * at the end of a report or a row, and 15 of a row. Later versions add numbers: every one but 0, known or not, is a refusal. */
+#define NDUSHAVIRE_DONE 0               /* answered; of a check, sound; of a report or a row, the requests read to their end; moved; taken over; exported;
+                                         * imported */
 #define NDUSHAVIRE_ANSWER_SHORT 1       /* the answer buffer is under NDUSHAVIRE_ANSWER_ROOM */
 #define NDUSHAVIRE_REQUEST_SIZE 2       /* the request is under or over its limits */
 #define NDUSHAVIRE_REQUEST_LENGTH 3     /* its header's length is not its own, or no multiple of 4 */
@@ -138,7 +144,7 @@ extern "C" {
 #define NDUSHAVIRE_TABLE_UNSOUND 5      /* the value is the first bad block; of a move, 0 for a sound table of the other edition; of an export, 0 for one of
                                          * edition 1; of an import, always 0: its header block is not of 512 bytes, unsound, or of edition 1 */
 #define NDUSHAVIRE_VECTORS_UNSOUND 6    /* the value is 0; of ndushavire_check_vectors it is the first bad block */
-#define NDUSHAVIRE_REQUESTS_BROKEN 7    /* of a report, which has the numbers so far: the next request is cut off or out of step */
+#define NDUSHAVIRE_REQUESTS_BROKEN 7    /* of a report, which has the numbers so far, or of a row: the next request is cut off or out of step */
 #define NDUSHAVIRE_TABLE_HAS_SETS 8     /* of the move back: the value is the first block whose set number is not 0 */
 #define NDUSHAVIRE_NEW_UNSOUND 9        /* of a take-over: the new table is unsound, not of its exact length, or of edition 1 */
 #define NDUSHAVIRE_ISSUE_NOT_GREATER 10 /* of a take-over: a header or record in the area has the new table's issue, or a greater one */
@@ -147,7 +153,11 @@ extern "C" {
 #define NDUSHAVIRE_NAME_UNLISTABLE 13   /* of an export: the value is the first block with a byte outside 32 to 126 in one of its three names */
 #define NDUSHAVIRE_LINE_WRONG 14        /* of an import: the value is the first line, counted from 1, that no export could hold there; it may be missing */
 #define NDUSHAVIRE_OUTPUT_SHORT 15      /* the report area is under NDUSHAVIRE_REPORT_ROOM; of an export or an import, its area is shorter than what it
-                                         * is to hold; tried last there, and the value is 0 */
+                                         * is to hold; tried last there, and the value is 0; of a row: no room for the next answer or word */
+
+/* Of a row, in its word's place: what its requests altered, one or the other or both. */
+#define NDUSHAVIRE_ROW_ALTERED 1 /* some request altered a record: the table is to be stored */
+#define NDUSHAVIRE_ROW_MARKED 2  /* some request marked a vector: the vector file is to be stored, and first */
 
 /* Answers one request, rewrites the records that it changes, those of their sets with them, and marks the vectors that it sends. The
  * word's value is the answer's length; the buffer's bytes past it stay as they were. Its place says which AVP of the request is at
@@ -166,6 +176,26 @@ uint64_t ndushavire_decide(const uint8_t *request, size_t request_len, uint8_t *
 uint64_t ndushavire_plain(const uint8_t *request, size_t request_len, uint8_t *table, size_t table_len,
                           const uint8_t *profile, size_t profile_len, uint8_t *vectors, size_t vectors_len,
                           uint8_t *answer, size_t answer_len, uint32_t peer, uint32_t features);
+
+/* Answers the requests that are laid end to end, in turn, each over the table and the vectors that the one before left: a row. Each request read gets
+ * NDUSHAVIRE_ROW_WORD bytes of WORDS, which ndushavire_row_word reads: the word that ndushavire_decide would return for it, lent these files as they then
+ * are and what is left of ANSWERS. Its answer stands in ANSWERS right behind the one before; a request that is refused has none. So words, answers, table
+ * and vectors are those of as many calls of ndushavire_decide: that is proved. The length in a request's header alone says where the next one begins: one that
+ * is over NDUSHAVIRE_REQUEST_MAX, or is no multiple of 4, is refused as ever, in its word, and read over. PEER and FEATURES are for all requests of the
+ * row: requests of peers that follow another base standard are another row.
+ * Before each request, tried in this order, the row ends
+ * - with number 0 if the requests are used up;
+ * - with 7 if 1 to 3 bytes are left, or the next header's length is under NDUSHAVIRE_REQUEST_MIN or past the end;
+ * - with 15 if fewer than NDUSHAVIRE_ANSWER_ROOM bytes are left of ANSWERS, or fewer than NDUSHAVIRE_ROW_WORD of WORDS; or with 4,294,967,295 words
+ *   written.
+ * What was done up to there stays done under all three, and is to be stored and answered; no request's refusal ends the row. The word's value is how many
+ * requests have a word, the first ones, and its place says what they altered: NDUSHAVIRE_ROW_ALTERED if one of them altered the bytes of a record, though a
+ * later one may have put them back; NDUSHAVIRE_ROW_MARKED if one marked a vector; their sum if both. Where it is 0 there is nothing to store. Bytes of
+ * ANSWERS and WORDS past what was written stay. Room for K requests is K x NDUSHAVIRE_ANSWER_ROOM bytes of ANSWERS and K x NDUSHAVIRE_ROW_WORD of WORDS. */
+uint64_t ndushavire_row(const uint8_t *requests, size_t requests_len, uint8_t *table, size_t table_len,
+                        const uint8_t *profile, size_t profile_len, uint8_t *vectors, size_t vectors_len,
+                        uint8_t *answers, size_t answers_len, uint8_t *words, size_t words_len, uint32_t peer,
+                        uint32_t features);
 
 /* Checks a table against its profile file. The word's number is 0 and its value the record count, or 5 and the first
  * bad block. Of a sound table in a longer area the first 512 x (value + 1) bytes were looked at: they are the table. */
@@ -279,7 +309,7 @@ static inline uint32_t ndushavire_number(uint64_t word) { return (uint32_t)(word
  * whose length is wrong.
  * It is 0 where no AVP of the request is at fault: under header faults, B5005, X results, whatever a decision says (B5003,
  * B5012, the B5009 of a SAR's second identity), success; under every refusal; of both checks, of both moves, of a take-over, of a report, of
- * an export, and of an import. */
+ * an export, and of an import. Of a row's own word it is what was altered, and each request's word has the place of its AVP at fault. */
 static inline uint32_t ndushavire_place(uint64_t word) { return (uint32_t)(word >> 32) & 0xFFFFu; }
 
 /* The answer's length is this part alone: the word of an answer with a place is a far greater number. */
@@ -311,6 +341,11 @@ static inline uint64_t ndushavire_report_word(const uint8_t *report, uint32_t wo
     uint64_t count = 0;
     for (uint32_t at = 8 * word; at < 8 * word + 8; at++) count = count << 8 | report[at];
     return count;
+}
+
+/* The word of a request of a row, by its number from 0. */
+static inline uint64_t ndushavire_row_word(const uint8_t *words, uint32_t request) {
+    return ndushavire_report_word(words + (size_t)NDUSHAVIRE_ROW_WORD * request, 0);
 }
 
 /* How many requests a refusal refused, by its number, 1 to 15. */

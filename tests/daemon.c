@@ -2,8 +2,9 @@
  * examples, on a disk that fails. Its system calls fail, or are its last, or the last before a power cut, one by one and two by two; it is
  * started again, and its peer asks until it is answered. No answer may go out while a power cut could bring back another table or vector
  * file than it was given from, and no vector twice. To RUBBISH, which has an AVP at fault, its log says where it hurts. Each peer gets the
- * answer by the base standard that is stated of it, and whoever asks for features is told those that are supported. A daemon that looks for new
- * tables has an unsound one laid over its own: until its own is stored again that one stays, and what alters is not answered.
+ * answer by the base standard that is stated of it, and whoever asks for features is told those that are supported. A daemon that serves rows is asked
+ * in rows of 1 to 64: all of a row is answered, from what it altered as a whole, or none of it. A daemon that looks for new tables has an unsound one
+ * laid over its own: until its own is stored again that one stays, and what alters is not answered.
  * The disk is a model: what is in the folders is what every reader sees, and only what was flushed is on disk. */
 #define _GNU_SOURCE /* memmem, MAP_ANONYMOUS */
 #include <stdarg.h>
@@ -18,7 +19,7 @@
 #include <sys/wait.h>
 #include <unistd.h>
 
-enum { ROOM = 16 * 512, FILES = 8, FAULTS = 2, LIVES = 8, REQUESTS = 6, ANOTHER = REQUESTS, BLOCKS = 16, ENDED = 9 };
+enum { ROOM = 16 * 512, FILES = 8, FAULTS = 2, LIVES = 8, SCRIPT = 6, REQUESTS = 64, ANOTHER = REQUESTS, BLOCKS = 16, ENDED = 9 };
 
 /* The files that are stored; each lies in a folder of its own. */
 enum { TABLE, VECTORS, NAMES };
@@ -253,16 +254,28 @@ static int disk_close(int file) {
 #ifndef PAIRED
 #define PAIRED WAYS /* how many of the ways are tried two by two */
 #endif
+#ifndef ROWS
+#define ROWS 1 /* the most requests of a row: it is asked one by one */
+#define ask_in_row(peer, request, length) ((void)(peer), (void)(request), (void)(length))
+#define answer_in_row(peer) ((void)(peer))
+#endif
 
 /* ---- the peer */
 
 static Bytes old_file[NAMES], old_profile, question, assignment, challenge, rubbish, doubled, asking;
 
 /* A line that nobody has registered is challenged, assigned, challenged anew; the last assignment finds its work done. */
-static const Bytes *const asked[REQUESTS] = {&question, &challenge, &assignment, &challenge, &question, &assignment};
+static const Bytes *const script[SCRIPT] = {&question, &challenge, &assignment, &challenge, &question, &assignment};
 static Bytes expected[REQUESTS + 1]; /* the table before the first request and after each */
+static unsigned requests = SCRIPT;   /* how many there are; behind the script come questions */
+static unsigned row_length = 1;      /* how many are asked at once */
 static int rotten;                   /* whether the vector file is unsound */
 static int told_features;            /* whether the answer to come has the features that are supported */
+
+static const Bytes *asked(unsigned i) { return i < SCRIPT ? script[i] : &question; }
+
+/* Behind which request the row ends that begins with request I. */
+static unsigned row_end(unsigned i) { return i + row_length < requests ? i + row_length : requests; }
 
 static int same(const Bytes *a, const uint8_t *b, size_t length) { return a->length == length && memcmp(a->bytes, b, length) == 0; }
 
@@ -333,30 +346,45 @@ int send_all(int peer, const uint8_t *bytes, size_t length) {
     if ((memmem(bytes, length, own_list, sizeof own_list) != NULL) != told_features)
         broken(told_features ? "the features that are supported are not told" : "features are told that nobody asked for");
     if (peer == ANOTHER) return 1;
-    if (!same(&expected[peer + 1], table.bytes, table.length)) broken("a request was answered and not carried out");
-    if (vectors_in(bytes, length) != (asked[peer] == &challenge && !rotten)) broken("an answer has more vectors or fewer than were asked for");
+    if (!same(&expected[row_end((unsigned)peer / row_length * row_length)], table.bytes, table.length)) broken("a request was answered and not carried out");
+    if (vectors_in(bytes, length) != (asked((unsigned)peer) == &challenge && !rotten)) broken("an answer has more vectors or fewer than were asked for");
     model->answered++;
     return 1;
+}
+
+/* Asks for a row, which is answered whole or not at all. */
+static void serve_row(unsigned first) {
+    for (unsigned i = first; row_length > 1 && i < row_end(first); i++) ask_in_row((int)i, asked(i)->bytes, asked(i)->length);
+    if (row_length > 1) answer_in_row((int)first);
+    else serve((int)first, asked(first)->bytes, asked(first)->length);
+    if (model->answered != first && model->answered != row_end(first)) broken("a row was answered in part");
 }
 
 /* One life of the daemon: it serves until all is answered, or ends. Another peer asks a question where the first gets no answer. */
 static void live(void) {
     start("live", ".");
-    for (int tries = 0; model->answered < REQUESTS && tries < LIVES * REQUESTS; tries++) {
-        const unsigned now = model->answered;
-        serve((int)now, asked[now]->bytes, asked[now]->length);
-        if (model->answered == now) serve(ANOTHER, question.bytes, question.length);
+    for (unsigned tries = 0; model->answered < requests && tries < LIVES * requests; tries++) {
+        const unsigned before = model->answered;
+        serve_row(before);
+        if (model->answered == before) serve(ANOTHER, question.bytes, question.length);
     }
 }
 
-/* What may be on disk between two lives: the last answer's work, or the next one's; never a challenge's name without its vectors. */
+static int is_challenged(unsigned from, unsigned to) {
+    int is = 0;
+    for (; from < to; from++) is |= asked(from) == &challenge;
+    return is;
+}
+
+/* What may be on disk between two lives: the last answer's work, or all of the next row's; never a challenge's name without its vectors. */
 static const char *disk_is_wrong(void) {
-    const Bytes *disk = &model->on_disk[TABLE], *next = &expected[model->answered < REQUESTS ? model->answered + 1 : REQUESTS];
+    const unsigned end = row_end(model->answered);
+    const Bytes *disk = &model->on_disk[TABLE], *next = &expected[end];
     for (size_t block = 0; block < BLOCKS; block++)
         if (model->sent[block] && !used_on_disk(block)) return "a vector that was sent is unused on disk";
     if (same(disk, expected[model->answered].bytes, expected[model->answered].length)) return NULL;
     if (!same(disk, next->bytes, next->length)) return "an answered request was lost";
-    if (!rotten && asked[model->answered] == &challenge && many_used() == many_sent()) return "the table has a challenge's name, and no vector was used for it";
+    if (!rotten && is_challenged(model->answered, end) && many_used() == many_sent()) return "the table has a challenge's name, and no vector was used for it";
     return NULL;
 }
 
@@ -377,7 +405,7 @@ static int try_faults(Fault first, Fault second, int forgets) {
     static const char *const ways[WAYS] = {"failed", "was the last", "was the last before a power cut"};
     int lives = 0;
     if (!prepare(first, second, forgets)) return 0;
-    for (; lives < LIVES && model->answered < REQUESTS && model->broken == NULL; lives++) {
+    for (; lives < LIVES && model->answered < requests && model->broken == NULL; lives++) {
         int status;
         const pid_t child = fork();
         if (child == 0) {
@@ -390,12 +418,12 @@ static int try_faults(Fault first, Fault second, int forgets) {
         if (model->broken == NULL) model->broken = disk_is_wrong();
         if (model->cut && !power_back()) return 0;
     }
-    if (model->broken == NULL && model->answered < REQUESTS) model->broken = "the peer was never answered";
+    if (model->broken == NULL && model->answered < requests) model->broken = "the peer was never answered";
     if (model->broken == NULL && !rotten && lives == 1 && many_used() != many_sent())
         model->broken = "a vector was used and not sent, though the daemon lived on";
     if (model->broken == NULL) return 1;
-    fprintf(stderr, "daemon: %s: call %u %s, call %u %s, on a disk that %s\n", model->broken, first.call, ways[first.way], second.call,
-            ways[second.way], forgets ? "forgets" : "does not forget");
+    fprintf(stderr, "daemon: %s: call %u %s, call %u %s, on a disk that %s, rows of %u\n", model->broken, first.call, ways[first.way], second.call,
+            ways[second.way], forgets ? "forgets" : "does not forget", row_length);
     return 0;
 }
 
@@ -418,7 +446,7 @@ static int expect(void) {
     for (int i = 0; i < REQUESTS; i++) {
         Bytes *to = &expected[i + 1];
         *to = expected[i];
-        if (!ndushavire_answered(ndushavire_decide(asked[i]->bytes, asked[i]->length, to->bytes, to->length, old_profile.bytes,
+        if (!ndushavire_answered(ndushavire_decide(asked((unsigned)i)->bytes, asked((unsigned)i)->length, to->bytes, to->length, old_profile.bytes,
                                                    old_profile.length, lent.bytes, lent.length, answer, sizeof answer, NDUSHAVIRE_RFC_3588,
                                                    features_stated())))
             return 0;
@@ -442,6 +470,19 @@ static unsigned try_all(unsigned whole) {
                     runs++;
                 }
         }
+    return runs;
+}
+
+/* The same in rows of so many requests, the last of which may be shorter. */
+static unsigned try_rows(unsigned length) {
+    const Fault none = {0, FAILS};
+    row_length = length;
+    requests = length > SCRIPT ? REQUESTS : SCRIPT;
+    if (!try_faults(none, none, 0)) return 0;
+    const unsigned whole = model->calls, runs = try_all(whole);
+    if (runs > 0)
+        printf("daemon: rows of %u, %u calls, %u runs with a fault or two, no answer that was not on disk and no vector sent twice\n", length, whole, runs);
+    fflush(stdout);
     return runs;
 }
 
@@ -471,7 +512,6 @@ static void live_covered(Fault fault) {
     model->covered = 1;
     model->fault[0] = fault;
     for (int tries = 0; model->answered < 3 && tries < LIVES; tries++) {
-        now++;
         LAID_OVER();
         serve(2, assignment.bytes, assignment.length);
     }
@@ -557,7 +597,7 @@ static int logs(int peer, const Bytes *asks, const Bytes *anothers, const char *
 /* Of a request with an AVP at fault the log says where it hurts. */
 static int try_rubbish(void) {
     return logs(ANOTHER, &question, &rubbish,
-                "daemon: peer 6: B5004 at byte 208: AVP 612 vendor 10415 flags 0xc0 length 84\n"
+                "daemon: peer 64: B5004 at byte 208: AVP 612 vendor 10415 flags 0xc0 length 84\n"
                 "    192: 0000025F C0000010 000028AF 00000001\n"
                 "    208:[00000264 C0000054 000028AF]00000260\n"
                 "    224: C000001C 000028AF 44696765 73742D41\n" MORE_LOGGED);
@@ -575,7 +615,7 @@ static int try_doubled(void) {
     doubled.bytes[3] = (uint8_t)(doubled.bytes[3] + 12);
     doubled.bytes[first - 1] += 12;
     return logs(0, &doubled, &doubled,
-                "daemon: peer 6: B5009 at byte 96: AVP 260 flags 0x40 length 44\n"
+                "daemon: peer 64: B5009 at byte 96: AVP 260 flags 0x40 length 44\n"
                 "     80: 69736C65 0000011B 4000000C 69736C65\n"
                 "     96:[00000104 4000002C]0000010A 4000000C\n"
                 "    112: 000028AF 0000010A 4000000C 000028AF\n");
@@ -597,6 +637,7 @@ static int try_features(void) {
 }
 
 int main(int argc, char **argv) {
+    static const unsigned lengths[] = {1, 2, 3, SCRIPT, REQUESTS};
     if (argc != 9) {
         fprintf(stderr, "usage: daemon FOLDER TABLE PROFILE VECTORS QUESTION ASSIGNMENT CHALLENGE RUBBISH\n");
         return 2;
@@ -626,8 +667,7 @@ int main(int argc, char **argv) {
     if (try_all_covered() == 0 || !try_faults(none, none, 0) || !prepare(none, none, 0)) return 1;
     live(); /* not forked, so that an emulator has translated it all */
     if (fchdir(folders[VECTORS]) != 0) return 2;
-    const unsigned whole = model->calls, runs = try_all(whole);
-    if (runs == 0) return 1;
-    printf("daemon: %u calls, %u runs with a fault or two, no answer that was not on disk and no vector sent twice\n", whole, runs);
+    for (size_t i = 0; i < sizeof lengths / sizeof lengths[0] && lengths[i] <= ROWS; i++)
+        if (try_rows(lengths[i]) == 0) return 1;
     return 0;
 }

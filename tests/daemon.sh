@@ -99,29 +99,33 @@ echo "daemon.sh: the page's daemon answers from what is on disk and logs an AVP 
 
 # The daemon of the examples. Two calls that fail are tried, and of the other ways each by itself: store.h is the same.
 mkdir "$room/whole"
-cp "$top"/examples/{daemon.c,area.h,base.h,fault.h,files.h,log.h,peers.h,remember.h,stated.h,store.h,taking.h} "$room/whole/"
+cp "$top"/examples/{daemon.c,area.h,base.h,fault.h,files.c,files.h,log.c,log.h,peers.h,remember.h,row.c,row.h,stated.h,store.h,taking.c,taking.h} "$room/whole/"
 cp "$tests/whole.c" "$room/whole/example.c"
 source=whole flags=(-DPAIRED=1) noticed=0
 build "$room/whole" "$room/whole/daemon"
 tried "$room/whole/daemon"
-without 'a start that does not flush' files.h 's/return flushed(from) \&\& flushed(file->folder) \&\& read_all/return read_all/'
-without 'a file that is unsure and answered from' files.h 's/if (stored == UNSURE \&\& store(/if (0 \&\& store(/'
-without 'a table that was not stored and is kept in memory' files.h 's/^        put_back(&table);//'
-without 'vectors that were not stored and are kept in memory' files.h 's/^        put_back(&vectors);//'
-without 'an answer sent whether stored or not' files.h '/^static int durable/,/^}/s/return 0;/return 1;/'
-without 'a table that is stored before the vectors' files.h \
-    's/(used \&\& !durable(&vectors)) || (rewritten \&\& !durable(&table))/(rewritten \&\& !durable(\&table)) || (used \&\& !durable(\&vectors))/'
-without 'vectors that are unsound and lent as they are' files.h 's/vectors.length = 0;/;/'
-without 'vectors of a MAR that are not looked at' files.h 's/= is_mar \&\& altered(&vectors)/= is_mar \&\& 0/'
-without 'an edition that is not the peer'"'"'s' daemon.c 's/sizeof answer, peer->edition,/sizeof answer, peer != NULL ? NDUSHAVIRE_RFC_3588 : 0,/'
-without 'features that are supported, and are not stated' daemon.c 's/peer->edition, features)/peer->edition, NDUSHAVIRE_NO_FEATURES)/'
+without 'a start that does not flush' files.c 's/return flushed(from) \&\& flushed(file->folder) \&\& read_all/return read_all/'
+without 'a file that is unsure and answered from' files.c 's/if (stored == UNSURE \&\& store(/if (0 \&\& store(/'
+without 'a table that was not stored and is kept in memory' files.c 's/^    put_back(&files->table);//'
+without 'vectors that were not stored and are kept in memory' files.c 's/^    put_back(&files->vectors);//'
+without 'an answer sent whether stored or not' files.c '/^static int durable/,/^}/s/return 0;/return 1;/'
+without 'a row that is answered whether stored or not' daemon.c 's/^            if (outcome != UNDONE) deliver/            deliver/'
+without 'a row that is answered up to its last request' daemon.c 's/^            if (outcome != UNDONE) deliver/            if (outcome != UNDONE \&\& (k == 0 || k + 1 < part->count)) deliver/'
+without 'the answers of a row in another order' daemon.c \
+    's/^            if (outcome != UNDONE) deliver(&part->asked\[k\]/            if (outcome != UNDONE) deliver(\&part->asked[part->count - 1 - k]/'
+without 'a table that is stored before the vectors' files.c \
+    's/(used \&\& !durable(&files->vectors)) || (rewritten \&\& !durable(&files->table))/(rewritten \&\& !durable(\&files->table)) || (used \&\& !durable(\&files->vectors))/'
+without 'vectors that are unsound and lent as they are' files.c 's/vectors->length = 0;/;/'
+without 'vectors that a row marked, and are not stored' files.c 's/^    const int used = (what & NDUSHAVIRE_ROW_MARKED) != 0,/    const int used = 0,/'
+without 'records that a row altered, and are not stored' files.c 's/ rewritten = (what & NDUSHAVIRE_ROW_ALTERED) != 0;/ rewritten = 0;/'
+without 'an edition that is not the peer'"'"'s' row.c 's/sizeof part->words, part->edition,/sizeof part->words, NDUSHAVIRE_RFC_3588,/'
+without 'features that are supported, and are not stated' row.c 's/part->edition, features)/part->edition, features \& NDUSHAVIRE_NO_FEATURES)/'
 without 'an X5011 of which the log does not say what was asked for' daemon.c \
-    's/^    if (experimental_result(answer, length) != FEATURE_UNSUPPORTED) return;/    if (length > 0) return;/'
-without 'a success that is taken for an error' daemon.c 's/ \/ 1000 == 2; }/ \/ 1000 == 3; }/'
-without 'a table renamed away before ours is stored' files.h \
-    's/^    const int folder = table.folder;$/&\n    renameat(folder, "table", folder, "table.declined");/'
-without 'a table that is stored over one that is not kept' files.h 's/^    if (linkat(.*/    if (0 \&\&/'
-without 'an answer while another table lies over ours' files.h 's/if (laid_over || (used/if ((used/'
-without 'a daemon that gives up over a full disk' files.h 's/^        say_once(told, /        stop(told, "full");\n&/'
-without 'a table that is laid over ours and left there' files.h 's/if (laid_over || !has_ours(table.folder, &table)) lay_back();/if (0) lay_back();/'
+    's/^    if (experimental_result(asked->answer, answer_length(asked)) != FEATURE_UNSUPPORTED) return;/    if (left > 0) return;/'
+without 'a table renamed away before ours is stored' files.c \
+    's/^    const int folder = table->folder;$/&\n    renameat(folder, "table", folder, "table.declined");/'
+without 'a table that is stored over one that is not kept' files.c 's/^    if (linkat(.*/    if (0 \&\&/'
+without 'an answer while another table lies over ours' files.c 's/if (files->laid_over || (used/if ((used/'
+without 'a daemon that gives up over a full disk' files.c 's/^        say_once(files->told, /        stop(files->told, "full");\n&/'
+without 'a table that is laid over ours and left there' files.c 's/if (files->laid_over || !has_ours(files->table.folder, &files->table)) lay_back(files);/if (0) lay_back(files);/'
 echo "daemon.sh: so does the daemon of the examples, and each of $noticed things left out is noticed"

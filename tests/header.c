@@ -1,5 +1,5 @@
 /* header: what ndushavire.h and ndushavire_sh.h say by themselves, in C and in C++, without the archives: the version in both forms, the limits, the
- * parts of a word, the words of a report, a table's edition and issue, which requests are of Sh. Exit status: 0 all as it should be, 1 not so. */
+ * parts of a word, the words of a report and of a row, a table's edition and issue, which requests are of Sh. Exit status: 0 all as it should be, 1 not so. */
 #include <stdio.h>
 #include <string.h>
 
@@ -36,6 +36,16 @@ static void report_holds(void) {
     holds(rise && ndushavire_report_result(0) == 2001 && ndushavire_report_result(NDUSHAVIRE_REPORT_BASE - 1) == 5014 &&
               ndushavire_report_result(NDUSHAVIRE_REPORT_BASE) == 2001 && ndushavire_report_result(NDUSHAVIRE_REPORT_COLUMNS - 1) == 5011,
           "the results of a report");
+}
+
+/* The words of a row stand one behind the other, and what a row altered is two bits. */
+static void row_holds(void) {
+    uint8_t words[3 * NDUSHAVIRE_ROW_WORD];
+    int right = 1;
+    for (size_t at = 0; at < sizeof words; at++) words[at] = (uint8_t)(0x10 * (at / 8 + 1) + at % 8);
+    for (uint32_t k = 0; k < 3; k++) right &= ndushavire_row_word(words, k) == (uint64_t)0x0001020304050607u + (k + 1) * (uint64_t)0x1010101010101010u;
+    holds(right && NDUSHAVIRE_ROW_WORD == 8, "a word of a row");
+    holds(NDUSHAVIRE_ROW_ALTERED == 1 && NDUSHAVIRE_ROW_MARKED == 2, "what a row altered");
 }
 
 /* Edition and issue are read where they stand, and nothing else is. */
@@ -111,6 +121,7 @@ int main(void) {
     holds(ndushavire_place(NDUSHAVIRE_ANSWER_ROOM) == 0, "a place where there is none");
     holds(ndushavire_answered(NDUSHAVIRE_ANSWER_ROOM) && ndushavire_sound(NDUSHAVIRE_RECORDS_MAX), "an answer taken for a refusal");
     report_holds();
+    row_holds();
     table_holds();
     sh_holds();
     if (!wrong) printf("header: version %s, and the numbers of ndushavire.h and ndushavire_sh.h agree\n", NDUSHAVIRE_VERSION);

@@ -140,11 +140,13 @@ tree | diff "$room/tree" - >&2 || fail 'make uninstall PREFIX= alters the tree'
 
 # An example, from what is installed and nothing else; the flags are for a shell to read.
 built() { # PREFIX
-    local of flags
+    local of flags parts
     cp "$1/share/doc/ndushavire/examples/"* "$room/new/"
     for of in check:ndushavire userdata:ndushavire_sh daemon:ndushavire_sh; do
         flags=$(PKG_CONFIG_PATH=$1/lib/pkgconfig pkg-config --cflags --libs "${of#*:}")
-        (cd "$room/new" && eval "\"\${compiler[@]}\" -std=c99 -o ${of%:*} ${of%:*}.c $flags")
+        parts=${of%:*}.c
+        [ "$parts" != daemon.c ] || parts='daemon.c files.c log.c row.c taking.c'
+        (cd "$room/new" && eval "\"\${compiler[@]}\" -std=c99 -o ${of%:*} $parts $flags")
     done
     tried=$((tried + 1))
 }

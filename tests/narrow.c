@@ -48,6 +48,12 @@ uint64_t __real_ndushavire_take(uint8_t *area, size_t area_len, const uint8_t *f
                                 size_t profile_len);
 uint64_t __wrap_ndushavire_take(uint8_t *area, size_t area_len, const uint8_t *fresh, size_t fresh_len, const uint8_t *profile,
                                 size_t profile_len);
+uint64_t __real_ndushavire_row(const uint8_t *requests, size_t requests_len, uint8_t *table, size_t table_len, const uint8_t *profile,
+                               size_t profile_len, uint8_t *vectors, size_t vectors_len, uint8_t *answers, size_t answers_len, uint8_t *words,
+                               size_t words_len, uint32_t peer, uint32_t features);
+uint64_t __wrap_ndushavire_row(const uint8_t *requests, size_t requests_len, uint8_t *table, size_t table_len, const uint8_t *profile,
+                               size_t profile_len, uint8_t *vectors, size_t vectors_len, uint8_t *answers, size_t answers_len, uint8_t *words,
+                               size_t words_len, uint32_t peer, uint32_t features);
 uint64_t __real_ndushavire_export(const uint8_t *table, size_t table_len, const uint8_t *profile, size_t profile_len, uint8_t *list, size_t list_len);
 uint64_t __wrap_ndushavire_export(const uint8_t *table, size_t table_len, const uint8_t *profile, size_t profile_len, uint8_t *list, size_t list_len);
 uint64_t __real_ndushavire_import(const uint8_t *list, size_t list_len, const uint8_t *header, size_t header_len, const uint8_t *profile,
@@ -80,6 +86,7 @@ static void report(void) { lent.word = __real_ndushavire_report(READ(0), WRITTEN
 static void forward(void) { lent.word = __real_ndushavire_forward(WRITTEN(0), READ(1), lent.number[0]); }
 static void back(void) { lent.word = __real_ndushavire_back(WRITTEN(0), READ(1)); }
 static void take(void) { lent.word = __real_ndushavire_take(WRITTEN(0), READ(1), READ(2)); }
+static void row(void) { lent.word = __real_ndushavire_row(READ(0), WRITTEN(1), READ(2), WRITTEN(3), WRITTEN(4), WRITTEN(5), lent.number[0], lent.number[1]); }
 static void export_list(void) { lent.word = __real_ndushavire_export(READ(0), READ(1), WRITTEN(2)); }
 static void import_list(void) { lent.word = __real_ndushavire_import(READ(0), READ(1), READ(2), WRITTEN(3)); }
 static void sh_decide(void) { lent.word = __real_ndushavire_sh_decide(READ(0), READ(1), READ(2), WRITTEN(3), lent.number[0]); }
@@ -246,6 +253,21 @@ uint64_t __wrap_ndushavire_take(uint8_t *area, size_t area_len, const uint8_t *f
     lend_read(1, fresh, fresh_len);
     lend_read(2, profile, profile_len);
     return narrow(take);
+}
+
+uint64_t __wrap_ndushavire_row(const uint8_t *requests, size_t requests_len, uint8_t *table, size_t table_len, const uint8_t *profile,
+                               size_t profile_len, uint8_t *vectors, size_t vectors_len, uint8_t *answers, size_t answers_len, uint8_t *words,
+                               size_t words_len, uint32_t peer, uint32_t features)
+{
+    lend_read(0, requests, requests_len);
+    lend_written(1, table, table_len);
+    lend_read(2, profile, profile_len);
+    lend_written(3, vectors, vectors_len);
+    lend_written(4, answers, answers_len);
+    lend_written(5, words, words_len);
+    lent.number[0] = peer;
+    lent.number[1] = features;
+    return narrow(row);
 }
 
 uint64_t __wrap_ndushavire_export(const uint8_t *table, size_t table_len, const uint8_t *profile, size_t profile_len, uint8_t *list, size_t list_len)

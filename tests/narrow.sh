@@ -9,7 +9,7 @@ compare() { # KIND COUNT
     "$reference" compare --kind "$1" --seed "$seed" --count "$2" -- "${driver[@]}"
 }
 
-others=(plain voicemail reports tables vectors moves takes lists)
+others=(plain voicemail reports rows tables vectors moves takes lists)
 echo "narrow.sh: seed $seed, $count calls, and $((count / 10)) of each of ${others[*]}, on a stack of 16 KiB"
 compare calls "$count"
 for kind in "${others[@]}"; do

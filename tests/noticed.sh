@@ -7,7 +7,7 @@ reference=$1
 driver=("${@:2}")
 tried=0
 # A fault shows once in 1,600 pairs; a run has some 25 calls.
-declare -A count=([tables]=2000 [vectors]=2000 [calls]=2000 [plain]=2000 [voicemail]=8000 [reports]=1000 [moves]=2000 [takes]=2000 [lists]=8000 [demand3]=8000 [demand3-voicemail]=8000 [neighbours]=4000 [neighbours-voicemail]=4000 [breaches]=100 [runs]=50)
+declare -A count=([tables]=2000 [vectors]=2000 [calls]=2000 [plain]=2000 [voicemail]=8000 [reports]=1000 [rows]=2000 [moves]=2000 [takes]=2000 [lists]=8000 [demand3]=8000 [demand3-voicemail]=8000 [neighbours]=4000 [neighbours-voicemail]=4000 [breaches]=100 [runs]=50)
 
 ends() { # STATUS KIND DRIVER..
     local status=0
@@ -16,7 +16,7 @@ ends() { # STATUS KIND DRIVER..
     tried=$((tried + 1))
 }
 
-for kind in tables vectors calls plain voicemail reports moves takes lists demand3 demand3-voicemail neighbours neighbours-voicemail breaches runs; do
+for kind in tables vectors calls plain voicemail reports rows moves takes lists demand3 demand3-voicemail neighbours neighbours-voicemail breaches runs; do
     ends 0 "$kind" "$reference" outcomes
     ends 1 "$kind" true
 done
@@ -29,6 +29,11 @@ for of in tables:EqualIdentitiesTaken tables:PrefixTaken vectors:XresOf3Taken ve
     demand3:MarkIgnored demand3:ReservedFlagsOfUnknownIgnored demand3:FaultyRequestUsesVector demand3:PlaceWithoutUnknown \
     tables:LongerAreaRefused calls:LongerAreaNotDecided reports:LongerAreaNotReported takes:EqualIssueTaken takes:FoundUpToOldCount \
     takes:FreshOfEdition1Taken takes:RefusedTakeWrites takes:RestOfAreaCleared runs:TakeWritesNothing \
+    rows:RowShortBeforeEnd rows:RowShortBeforeBroken rows:RowBrokenIsEnd rows:RowShortIsEleven rows:RowAnswersByteShortTaken rows:RowLeastWordsRefused \
+    rows:RowNeedsRoomForAll rows:RowStopUndone rows:RowStopsAtRefusal rows:RowPeerRefusesAll rows:RowTableNotCarried rows:RowVectorsNotCarried \
+    rows:RowOfOlderPeers rows:RowOfNoFeatures rows:RowRefusedUnworded rows:RowRefusedTakesRoom rows:RowAnswersOverwritten rows:RowAnswersInSlots \
+    rows:RowWordsLittleEndian rows:RowWordsWithoutPlace rows:RowAlteredNotTold rows:RowMarkedNotTold rows:RowFlagsTurned rows:RowAlteredByRewriting \
+    rows:RowAlteredAtEnd rows:RowAlteredByLast rows:RowAlteredCounted rows:RowTellsAnswered rows:RestOfRowAnswersCleared rows:RestOfRowWordsCleared \
     lists:QuoteNotDoubled lists:EmptyServerUnquoted lists:BarredAndServicesTurned lists:StartListedIn16Bits lists:SetLeftOut lists:LongerTableExported \
     lists:ExportOfEdition1Taken lists:ThirteenReturnsZero lists:HighBytesListed lists:ShortListBeforeUnlistable lists:RestOfListAreaCleared \
     lists:LeadingZerosTaken lists:EmptyNumberIsZero lists:BareQuoteTaken lists:SurplusLinesTaken lists:CountedByLines lists:ListSetsMayDisagree \
@@ -53,7 +58,7 @@ for of in tables:EqualIdentitiesTaken tables:PrefixTaken vectors:XresOf3Taken ve
     demand3:FirstUnknownPlaced demand3:LastMarkedPlaced runs:UsedSentAgain runs:RewritingFreesVectors; do
     ends 1 "${of%:*}" "$reference" outcomes --fault "${of#*:}"
 done
-for kind in tables vectors plain lists voicemail; do
+for kind in tables vectors plain rows lists voicemail; do
     OVERSTEP=nowhere ends 0 "$kind" "${driver[@]}"
     for which in before behind inside; do
         OVERSTEP=$which ends 1 "$kind" "${driver[@]}"

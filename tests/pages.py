@@ -41,6 +41,7 @@ STATEMENTS = {
     'rewrite/Reaching': '02 [6]',
     'seen_alike/Likeness': '02 [5]',
     'seen_alike/Moved': '02 [5]',
+    'row_laws/Rows': 'The row',
     'sh_demands/Demands': '02 [12]',
     'sh_demands/Peers': '02 [12]',
     'sh_demands/Place': '02 [12]',
@@ -53,8 +54,8 @@ WITH_STEPS = {'rewrite/Reaching', 'seen_alike/Likeness'}
 NO_STATEMENTS = set('''
     Areas AsWalked Cases Challenges Editions Escaping Examples Family Features Instances Listing Members Moves One Peers Reached Readings Room Same Servers Sole Sound TakeOvers Worked
 '''.split())
-# The crates that have wrong servers or wrong reporters, each with a theorem `.. -fails`.
-WRONG = ('report_example', 'sets_example', 'sh_example', 'taking_example', 'wrong_lists', 'wrong_servers')
+# The crates that have wrong servers, wrong reporters or wrong rows, each with a theorem `.. -fails`.
+WRONG = ('report_example', 'row_example', 'sets_example', 'sh_example', 'taking_example', 'wrong_lists', 'wrong_servers')
 # What a cell of the column Theorem says where there is no theorem: it is the contract of a function of that row; or there is none, and why.
 MARKS = ('the contract', 'none:')
 

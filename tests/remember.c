@@ -26,14 +26,14 @@ static void make_request(uint8_t *to, size_t length, unsigned long identifier) {
 
 static void forget_all(void) {
     for (int i = 0; i < 2; i++)
-        while (memory.row[i].oldest != NULL) forget_oldest(&memory.row[i]);
+        while (memory.queue[i].oldest != NULL) forget_oldest(&memory.queue[i]);
 }
 
 /* Whether nothing is left, in the rows and in the chains. */
 static int is_empty(void) {
     for (size_t i = 0; i < CHAINS; i++)
         if (memory.chain[i] != NULL) return 0;
-    return memory.row[0].bytes == 0 && memory.row[1].bytes == 0;
+    return memory.queue[0].bytes == 0 && memory.queue[1].bytes == 0;
 }
 
 static int keeps_its_time(int altered) {
@@ -91,7 +91,7 @@ static int keeps_a_full_load(size_t *collisions) {
     count_collisions(collisions, &longest);
     if (*collisions == 0) return wrong("no two hashes are alike: nothing was tried");
     if (longest > LONGEST_CHAIN) return wrong("a chain is so long that it is a scan");
-    if (!room || memory.row[0].bytes > remembered_most[0]) return wrong("there is no room for a full load, or too much for the others");
+    if (!room || memory.queue[0].bytes > remembered_most[0]) return wrong("there is no room for a full load, or too much for the others");
     if (recalls(last + 1, A_SECOND - 1) || !recalls(last + 1, A_SECOND)) return wrong("a second's answers are forgotten before or after their time");
     forget_all();
     return is_empty() ? 1 : wrong("something is left");
@@ -106,7 +106,7 @@ static int keeps_within_its_bytes(int altered) {
         make_request(request, sizeof request, i);
         if (remember(1000, altered, request, sizeof request, answer, sizeof answer) != (one * (i + 1) <= most))
             return wrong("it is not said whether there is room");
-        if (memory.row[altered].bytes > most) return wrong("more bytes than it may have");
+        if (memory.queue[altered].bytes > most) return wrong("more bytes than it may have");
     }
     if (recall(1000, request, sizeof request) == NULL) return wrong("the newest is forgotten");
     make_request(request, sizeof request, 0);

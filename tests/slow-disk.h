@@ -1,7 +1,7 @@
-/* slow-disk.h: included before a daemon by its test. A flush takes a millisecond, so that a kill often comes before it; it fails where
- * the folder that SLOW_DISK names has a file disk-full, that of a folder where it has a file folder-fails, and that of a block that is written in
- * place where it has a file block-fails. The daemon is the user
- * whose number DAEMON_USER has: it may be started from a folder that this user cannot reach. */
+/* slow-disk.h: included before each part of a daemon by its test. A flush takes a millisecond, so that a kill often comes before it. SLOW_DISK names a
+ * folder: where that has a file flushes, each flush adds a byte to it; where it has a file disk-full, flushes fail, that of a folder where it has a file
+ * folder-fails, and that of a block that is written in place where it has a file block-fails. The daemon is the user whose number DAEMON_USER has: it may be
+ * started from a folder that this user cannot reach. */
 #ifndef SLOW_DISK_H
 #define SLOW_DISK_H
 
@@ -22,10 +22,21 @@ static int test_has(const char *name) {
     return folder != NULL && access(path, F_OK) == 0;
 }
 
+static void count_flush(void) {
+    char path[4096];
+    if (!test_has("flushes")) return;
+    snprintf(path, sizeof path, "%s/flushes", getenv("SLOW_DISK"));
+    FILE *file = fopen(path, "ab");
+    if (file == NULL) return;
+    fputc('.', file);
+    fclose(file);
+}
+
 static int slow_fsync(int file) {
     const struct timespec millisecond = {0, 1000000};
     struct stat about;
     nanosleep(&millisecond, NULL);
+    count_flush();
     const int folder = fstat(file, &about) == 0 && S_ISDIR(about.st_mode);
     if (!test_has("disk-full") && !(folder && test_has("folder-fails"))) return fsync(file);
     errno = ENOSPC;
@@ -47,8 +58,8 @@ int setgroups(size_t many, const gid_t *groups); /* which POSIX does not have */
 
 __attribute__((constructor)) static void become_user(void) {
     const char *user = getenv("DAEMON_USER");
-    if (user == NULL) return;
-    const unsigned long number = strtoul(user, NULL, 10);
+    const unsigned long number = user != NULL ? strtoul(user, NULL, 10) : getuid();
+    if (number == getuid()) return; /* another part has become that user */
     if (setgroups(0, NULL) != 0 || setgid((gid_t)number) != 0 || setuid((uid_t)number) != 0) _exit(3);
 }
 #endif

@@ -5,9 +5,10 @@ import collections, struct, subprocess
 ENTRIES = {1: 'table profile'.split(), 2: 'request table* profile vectors* buffer*'.split(), 3: ['vectors'],
            4: 'requests table* profile vectors* buffer* report*'.split(), 5: 'table* profile'.split(), 6: 'table* profile'.split(),
            7: 'area* fresh profile'.split(), 8: 'table profile list*'.split(), 9: 'list header profile table*'.split(),
-           10: 'request table profile buffer*'.split(), 12: 'request table* profile vectors* buffer*'.split()}
+           10: 'request table profile buffer*'.split(), 11: 'requests table* profile vectors* answers* words*'.split(),
+           12: 'request table* profile vectors* buffer*'.split()}
 # The numbers behind them, where a case is given none: the peer's edition of the base standard, and the features that are supported, of which Sh is not told.
-NUMBERS = {2: (3588, 0), 4: (3588, 0), 10: (3588,), 12: (3588, 0)}
+NUMBERS = {2: (3588, 0), 4: (3588, 0), 10: (3588,), 11: (3588, 0), 12: (3588, 0)}
 WRITTEN, NOISY = 1 << 31, 1 << 30  # beside a slice's length
 # What a slice of noise holds before the call, from any of its first 256 bytes on.
 NOISE = bytes(((n * 2654435761) & 0xFFFFFFFF) >> 24 for n in range(256 + 65536))

@@ -35,7 +35,7 @@ twice=$( (defined "$archive"; defined "$sh_archive") | LC_ALL=C sort | uniq -d)
 cat >"$room/both.c" <<'END'
 #include <ndushavire_sh.h>
 #if CX
-static uint8_t vectors[1];
+static uint8_t vectors[1], words[8];
 #endif
 static const uint8_t request[20] = {1, 0, 0, 20, 0x80};
 static uint8_t table[512], answer[NDUSHAVIRE_ANSWER_ROOM];
@@ -47,6 +47,9 @@ int main(void) {
     wrong |= ndushavire_decide(request, 20, table, 512, request, 0, vectors, 0, answer, sizeof answer, 0, 0) != (uint64_t)12 << 48;
     wrong |= ndushavire_plain(request, 20, table, 512, request, 0, vectors, 0, answer, sizeof answer, 3588, 0) != (uint64_t)5 << 48;
     wrong |= ndushavire_plain(request, 20, table, 512, request, 0, vectors, 0, answer, sizeof answer, 0, 0) != (uint64_t)12 << 48;
+    wrong |= ndushavire_row(request, 20, table, 512, request, 0, vectors, 0, answer, sizeof answer, words, 8, 3588, 0) != 1 || words[1] != 5;
+    wrong |= ndushavire_row(request, 20, table, 512, request, 0, vectors, 0, answer, sizeof answer, words, 8, 0, 0) != 1 || words[1] != 12;
+    wrong |= ndushavire_row(request, 20, table, 512, request, 0, vectors, 0, answer, sizeof answer, words, 7, 3588, 0) != (uint64_t)15 << 48;
     wrong |= ndushavire_export(table, 512, request, 0, answer, sizeof answer) != (uint64_t)5 << 48;
     wrong |= ndushavire_import(request, 20, table, 512, vectors, 0, answer, sizeof answer) != (uint64_t)5 << 48;
 #endif

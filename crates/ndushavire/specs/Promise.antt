@@ -9,11 +9,12 @@ use Rattle.calling.specs.Lent.{Lent}
 use Rattle.calling.specs.Serve.{serve}
 use Rattle.moving.specs.Outcomes.{forward, back}
 use Rattle.reporting.specs.Report.{reported}
+use Rattle.row_of_calls.specs.Row.{rowed}
 use Rattle.taking.specs.TakeOver.{takeOver}
 use Rattle.listing.specs.Export.{exported}
 use Rattle.importing.specs.Import.{imported}
 use Rattle.ndushavire.specs.Version.{version}
-use Rattle.ndushavire.specs.Word.{word, checkWord, callWord, moveWord, takeWord, listWord}
+use Rattle.ndushavire.specs.Word.{word, checkWord, callWord, moveWord, takeWord, listWord, rowWord}
 
 -- the check of the table at the front of its area: "the exact count or first bad block"; of the profile file its length alone counts
 pub record CheckPromise (table profile : List ℕ) (r : ℕ) : Type 0 where
@@ -60,6 +61,15 @@ pub record ExportPromise (table profile list : List ℕ) (r : ℕ) (list' : List
 pub record ImportPromise (list header profile table : List ℕ) (r : ℕ) (table' : List ℕ) : Type 0 where
   pub word-is : r ≡ listWord (imported list header (length profile) table .said)
   pub table-is : table' ≡ imported list header (length profile) table .area
+
+-- the row, whose requests are lent as the request and its `answers` as the buffer: its word, and the table, the vectors, the answers and the words at exit are
+-- those of `rowed`
+pub record RowPromise (x : Lent) (words : List ℕ) (r : ℕ) (table' vectors' answers' words' : List ℕ) : Type 0 where
+  pub word-is : r ≡ rowWord (rowed x words)
+  pub table-is : table' ≡ rowed x words .table
+  pub vectors-is : vectors' ≡ rowed x words .vectors
+  pub answers-is : answers' ≡ rowed x words .answers
+  pub words-is : words' ≡ rowed x words .words
 
 -- the version of the library that is called
 pub record VersionPromise (r : ℕ) : Type 0 where

@@ -1,7 +1,6 @@
 -- The word that a call returns: its number times 2^48, the place of the AVP at fault times 2^32, and what it returns besides below that.
-use Prim.Native.Nat.{ℕ, _+_, _*_}
-use Rattle.calling.specs.Call.{Call}
-use Rattle.calling.specs.Call.{Answered, Refused}
+use Prim.Native.Nat.{ℕ, _+_}
+use mathlib.Core.Bool.{Bool, cond}
 use Rattle.moving.specs.declared.Move.{Move}
 use Rattle.moving.specs.declared.Move.the-variants as move
 use Rattle.moving.specs.declared.Move.the-variants.{Moved}
@@ -13,24 +12,14 @@ use Rattle.listing.specs.declared.Listed.the-variants as list
 use Rattle.listing.specs.declared.Listed.the-variants.{Written}
 use Rattle.blocks.specs.declared.Checked.{Checked}
 use Rattle.blocks.specs.declared.Checked.the-variants.{Sound, Bad}
-
-abbrev pub numberUnit : ℕ
-numberUnit = 281474976710656
-
-abbrev pub placeUnit : ℕ
-placeUnit = 4294967296
-
-abbrev pub word : ℕ → ℕ → ℕ → ℕ
-word number place value = number * numberUnit + place * placeUnit + value
+use Rattle.row_of_calls.specs.Row.{Rowed}
+use Rattle.row_of_calls.specs.declared.Ended.{Ended}
+pub use Rattle.row_of_calls.specs.Word.{numberUnit, placeUnit, word, callWord}
 
 -- a sound file: number 0 with the count; an unsound one: its refusal's number (the table's is 5, the vector file's 6), with the first bad block
 abbrev pub checkWord : ℕ → Checked → ℕ
 checkWord number (Sound count) = word 0 0 count
 checkWord number (Bad block) = word number 0 block
-
-abbrev pub callWord : Call → ℕ
-callWord (Answered a) = word 0 (a .place) (a .length)
-callWord (Refused number besides) = word number 0 besides
 
 abbrev pub moveWord : Move → ℕ
 moveWord (Moved count) = word 0 0 count
@@ -45,3 +34,14 @@ takeWord (take.Refused number) = word number 0 0
 abbrev pub listWord : Listed → ℕ
 listWord (Written bytes) = word 0 0 bytes
 listWord (list.Refused number value) = word number 0 value
+
+-- the row's: in the place 1 if some request altered a record, 2 if some vector was marked, 3 if both; as the value, how many requests have a word. The same
+-- from what the code says of it
+abbrev pub markOf : Bool → Bool → ℕ
+markOf altered marked = cond altered 1 0 + cond marked 2 0
+
+abbrev pub rowWord : Rowed → ℕ
+rowWord r = word (r .number) (markOf (r .altered) (r .marked)) (r .served)
+
+abbrev pub endedWord : Ended → ℕ
+endedWord e = word (e .number) (markOf (e .altered) (e .marked)) (e .served)

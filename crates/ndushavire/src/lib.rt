@@ -8,13 +8,16 @@ use diameter::codes;
 use listing::Listed;
 use moving::Move;
 use reading::Terms;
+use row_of_calls::Ended;
 use taking::Taken;
+ghost use mathlib.Core.Bool.{cond};
 ghost use mathlib.Core.Path.{_≡_};
+ghost use Prim.Native.Nat.{_≤_};
 ghost use Rattle.requests.specs.Request.{underCx};
 ghost use Rattle.calling.specs.Leaves.{callOf};
 ghost use Rattle.calling.specs.Lent.{lent};
-ghost use Rattle.ndushavire.specs.Word.{checkWord, callWord, moveWord, takeWord, listWord};
-ghost use Rattle.ndushavire.specs.Promise.{CheckPromise, CheckVectorsPromise, DecidePromise, ReportPromise};
+ghost use Rattle.ndushavire.specs.Word.{checkWord, callWord, moveWord, takeWord, listWord, endedWord};
+ghost use Rattle.ndushavire.specs.Promise.{CheckPromise, CheckVectorsPromise, DecidePromise, ReportPromise, RowPromise};
 ghost use Rattle.ndushavire.specs.Promise.{ForwardPromise, BackPromise, TakePromise, ExportPromise, ImportPromise, VersionPromise};
 
 // The word of a check's answer: a bad block has the refusal's number.
@@ -205,8 +208,50 @@ pub extern "C" fn ndushavire_import(
     list_word(billing::import(list, header, profile.len(), table))
 }
 
-// Which library was linked, so that a daemon can tell it from the header that it was compiled with: 0.16.0, as NDUSHAVIRE_VERSION_NUMBER has it.
-const VERSION: u32 = 1600;
+// A bit of a place, of such a value.
+fn bit(set: bool, value: u16) -> u16
+    ensures { λ r. ⌜ (r ≡ cond set value 0) × (r ≤ value) ⌝ }
+{
+    if set { value } else { 0 }
+}
+
+// The word of a row: what it altered is in the place, a bit for records and one for vectors.
+fn row_word(e: Ended) -> u64
+    ensures { λ r. ⌜ r ≡ endedWord e ⌝ }
+{
+    let records = bit(e.altered, 1);
+    let vectors = bit(e.marked, 2);
+    word::of(e.number, records + vectors, e.served)
+}
+
+// The row, our own entry: requests laid end to end, served in turn, at the price of one check of the table and the vectors. Each has in `words` the word that
+// `ndushavire_decide` would return, of 8 bytes, the highest first, and its answer, if it has one, in `answers`, right behind the one before.
+#[no_mangle]
+pub extern "C" fn ndushavire_row(
+    requests: &[u8],
+    table: &mut [u8],
+    profile: &[u8],
+    vectors: &mut [u8],
+    answers: &mut [u8],
+    words: &mut [u8],
+    peer: u32,
+    features: u32,
+) -> u64
+    ensures { λ r. ⌜ RowPromise
+        (lent (now (requests .entry)) (now (table .entry)) (now (profile .entry)) (now (vectors .entry)) (now (answers .entry)) (underCx peer features))
+        (now (words .entry))
+        r (now (table .exit)) (now (vectors .exit)) (now (answers .exit)) (now (words .exit)) ⌝ }
+{
+    let terms = Terms {
+        application: codes::CX,
+        peer,
+        features,
+    };
+    row_word(row_of_calls::row(requests, table, profile, vectors, answers, words, terms))
+}
+
+// Which library was linked, so that a daemon can tell it from the header that it was compiled with: 0.17.0, as NDUSHAVIRE_VERSION_NUMBER has it.
+const VERSION: u32 = 1700;
 
 #[no_mangle]
 pub extern "C" fn ndushavire_version() -> u32

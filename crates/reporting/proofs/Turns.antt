@@ -26,10 +26,10 @@ rest-is : (s : List ℕ) (at : ℕ) → take (length s - at) (drop at s) ≡ dro
 rest-is s at = take-all (length s - at) (drop at s) (rw length-drop (omega arith))
 
 module _ (s : List ℕ) (at : ℕ) {n : ℕ} (e : n ≡ firstLength (take (length s - at) (drop at s))) where
-  here : n ≡ firstLength (drop at s)
+  pub here : n ≡ firstLength (drop at s)
   here = rw (rest-is s at) at e
 
-  piece-is : take (at + n - at) (drop at s) ≡ take n (drop at s)
+  pub piece-is : take (at + n - at) (drop at s) ≡ take n (drop at s)
   piece-is = rw add-sub-cancel-left
 
   pub turn-least : (n ≡ 0 → ⊥) → 20 ≤ n

@@ -31,7 +31,7 @@ const LEFT: usize = 4;
 const LEAST: usize = 20;
 
 // The length of the request that stands first, 0 if none does.
-fn first_length(s: &[u8]) -> usize
+pub fn first_length(s: &[u8]) -> usize
     ensures { λ r. ⌜ (r ≡ firstLength (now (s .entry))) × (r ≤ length (now (s .entry))) ⌝ }
 {
     if s.len() < LEFT {

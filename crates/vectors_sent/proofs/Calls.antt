@@ -9,7 +9,7 @@ use Rattle.refusals.specs.Early.{checkValue}
 use Rattle.calling.specs.Serve.{checkOf, trials, refused, answeredBy, serveTable, decided}
 use Rattle.calling.proofs.Kept.{taken, serve-either, answered-is}
 use Rattle.vectors_sent.specs.Sent.{sentBy, Challenges, userOf, askedBy}
-use Rattle.vectors_sent.proofs.Cases.{Cases, other, success, decide-cases}
+use Rattle.row_of_calls.proofs.Cases.{Cases, other, success, decide-cases}
 
 module _ (x : Lent) where
   abbrev v : List ℕ

@@ -1,0 +1,9 @@
+pub mod Calls
+pub mod Ends
+pub mod Enough
+pub mod Firm
+pub mod Flags
+pub mod Folds
+pub mod Joined
+pub mod Rows
+pub mod Turns

@@ -1,0 +1,3 @@
+pub mod Leaves
+pub mod Row
+pub mod Word
