@@ -124,7 +124,7 @@ examples: $(foreach mode,c99 cxx,$(addprefix target/$(mode)/,check decide userda
 	RUN='$(RUN)' tests/userdata.sh target/test/userdata target/c/maketable target/c99/userdata target/cxx/userdata
 	RUN='$(RUN)' tests/report.sh target/test/report target/c/maketable target/c99/report target/cxx/report
 	RUN='$(RUN)' tests/move.sh target/test/move target/c/maketable target/c/showtable target/c99/check target/c99/move target/cxx/move
-	RUN='$(RUN)' tests/take.sh target/test/take target/c/maketable target/c99/check target/c99/cut-take target/c99/take target/cxx/take
+	RUN='$(RUN)' tests/take.sh target/c/maketable target/c99/check target/c99/cut-take target/c99/take target/cxx/take
 	RUN='$(RUN)' tests/list.sh target/test/list target/c/maketable target/c99/check target/c99/list target/cxx/list
 
 #: tables             tables and vector files made from text, and damaged ones

@@ -2,25 +2,15 @@
 # list.sh ROOM MAKETABLE CHECK LIST..: each LIST writes tables as lists and makes them again, into new files alone. Each list is what
 # cells.py says of the table's bytes, and there and back is the first file. Whatever is refused leaves no file, and names the block or the line.
 # RUN, if set, is the emulator.
-set -euo pipefail
-room=$1 maketable=$(realpath "$2") check=$(realpath "$3")
+. "$(dirname "$0")/script.sh"
+. "$tests/blocks.sh"
+make_room "$1" here
+maketable=$(realpath "$2") check=$(realpath "$3")
 shift 3
 lists=()
 for list in "$@"; do lists+=("$(realpath "$list")"); done
-run=(${RUN:+"$RUN"})
-top=$(cd "$(dirname "$0")/.." && pwd)
-. "$(dirname "$0")/blocks.sh"
-rm -rf "$room"
-mkdir -p "$room/here"
-room=$(cd "$room" && pwd)
 sample=$top/examples/households.txt table=$room/table profile=$room/profile csv=$room/csv new=$room/here/new
 columns=public,private,server,state,pending,barred,services,roaming,mandatory,m1,m2,m3,m4,optional,o1,o2,o3,o4,start,length,set
-tried=0
-
-fail() {
-    echo "list.sh: $*" >&2
-    exit 1
-}
 # The sample in edition 2: with this issue, and altered as AWK says.
 of_issue() { # ISSUE TABLE [AWK]
     awk "/^host=/ { \$0 = \$0 \" issue=$1\" } ${3-} 1" "$sample" >"$room/text"

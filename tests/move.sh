@@ -2,24 +2,14 @@
 # move.sh ROOM MAKETABLE SHOWTABLE CHECK MOVE..: each MOVE moves tables from edition 1 to 2 and back, into new files alone. What it makes is what
 # maketable makes of the text with the issue; there and back is the first file again. Whatever is refused leaves no file, and names the
 # block. RUN, if set, is the emulator.
-set -euo pipefail
-room=$1 maketable=$(realpath "$2") showtable=$(realpath "$3") check=$(realpath "$4")
+. "$(dirname "$0")/script.sh"
+. "$tests/blocks.sh"
+make_room "$1" here
+maketable=$(realpath "$2") showtable=$(realpath "$3") check=$(realpath "$4")
 shift 4
 moves=()
 for move in "$@"; do moves+=("$(realpath "$move")"); done
-run=(${RUN:+"$RUN"})
-top=$(cd "$(dirname "$0")/.." && pwd)
-. "$(dirname "$0")/blocks.sh"
-rm -rf "$room"
-mkdir -p "$room/here"
-room=$(cd "$room" && pwd)
 sample=$top/examples/households.txt table=$room/table profile=$room/profile new=$room/here/new
-tried=0
-
-fail() {
-    echo "move.sh: $*" >&2
-    exit 1
-}
 # The sample in edition 2: with this issue, and with a set where AWK puts one.
 of_issue() { # ISSUE TABLE [AWK]
     awk "/^host=/ { \$0 = \$0 \" issue=$1\" } ${3-} 1" "$sample" >"$room/text"

@@ -1,13 +1,8 @@
 #!/usr/bin/env bash
 # version.sh VERSION..: one version everywhere. VERSION prints the number of the library that was linked; it is the header's, in both forms, that
 # of the definition in crates/, that of the programs' --version, the one that pkg-config will say, and the one that README.md says this is.
-set -euo pipefail
-cd "$(dirname "$0")/.."
-
-fail() {
-    echo "version.sh: $*" >&2
-    exit 1
-}
+. "$(dirname "$0")/script.sh"
+cd "$top"
 said() { # WHAT EXPECTED FOUND
     [ "$2" = "$3" ] || fail "the header is of $version, and $1 says '$3' instead of '$2'"
 }
