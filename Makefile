@@ -14,7 +14,7 @@ endif
 export PYTHONDONTWRITEBYTECODE := 1
 .PHONY: help run test quick clean fmt kit pages header examples tables texts aims stores programs reference installs cited narrow bench stack installable install uninstall
 .PHONY: unsound reports moves takes cuts recipes daemon peers differential plain noticed soak mutants stats definitions-check cases
-.PHONY: voicemail documents parsed promises spreadsheet
+.PHONY: voicemail documents parsed promises spreadsheet long
 
 MACHINE := $(shell uname -m)
 ifeq ($(MACHINE),x86_64)
@@ -251,16 +251,18 @@ plain: target/c99/driver $(BINARY)
 	@echo "plain: seed $(SEED), $(COUNT_engines) calls of either engine"
 	$(BINARY) compare --kind plain --seed $(SEED) --count $(COUNT_engines) -- $(DRIVER)
 
+COUNT_cuts := 1000
 #: cuts               the whole of that, two minutes: 1,000,000 sets of blocks, 1,000 kills within a table of 4,096, and some of it with files on disk
 cuts: target/c99/takes target/c99/cuts target/c99/take target/c99/cut-take
 	@echo "cuts: seed $(SEED)"
-	$(RUN) $< $(SEED) 500000
-	$(CUT) '' target/c99/cuts target/c99/take target/c99/cut-take $(SEED) 2000 1000
-	$(CUT) target/test/cuts target/c99/cuts target/c99/take target/c99/cut-take $(SEED) 100 20
+	$(RUN) $< $(SEED) $$((500 * $(COUNT_cuts)))
+	$(CUT) '' target/c99/cuts target/c99/take target/c99/cut-take $(SEED) $$((2 * $(COUNT_cuts))) $(COUNT_cuts)
+	$(CUT) target/test/cuts target/c99/cuts target/c99/take target/c99/cut-take $(SEED) $$(($(COUNT_cuts) / 10)) $$(($(COUNT_cuts) / 50))
 
+COUNT_parsed := 100000
 #: parsed             100,000 answers of the Sh entry, whose documents an XML parser reads as they were meant, half a minute
 parsed: target/c99/driver
-	$(DOCUMENTS) 100000 $(DRIVER)
+	$(DOCUMENTS) $(COUNT_parsed) $(DRIVER)
 
 #: spreadsheet        what Python's csv and LibreOffice, which it installs from Debian as root, make of a list, beside docs/LIST.md; a minute
 spreadsheet: target/c99/list target/c/maketable
@@ -301,6 +303,11 @@ COUNT_DEFINITIONS := 300
 #: definitions-check  300 calls computed from the definitions and compared, a quarter of an hour; COUNT_DEFINITIONS=24 is a trial
 definitions-check: $(BINARY)
 	RT_JOBS=2 tests/within.sh target/test/definitions tests/definitions.py $(BINARY) $(SEED) $(COUNT_DEFINITIONS)
+
+SECONDS := 900
+#: long               mutants, stats, definitions-check, cuts, parsed, plain and soak, each in its share of SECONDS=N (900) once all is made, what each covered, and its seeds
+long: target/c99/driver target/c99/takes target/c99/cuts target/c99/take target/c99/cut-take $(BINARY)
+	@tests/within.sh target/test/long tests/long.py $(SECONDS) $(SEED)
 
 # Writes crates/cases/stdin and stdout anew: what the gate's program `cases` runs, and what the independent program says
 # of it.

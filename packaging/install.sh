@@ -67,7 +67,7 @@ script_of() { # PAGE
 pkg_config() { # LIBRARY
     local text version
     under() { if [ "${1#"$prefix"/}" != "$1" ]; then printf '${prefix}/%s' "${1#"$prefix"/}"; else printf %s "$1"; fi; }
-    version=$(sed -n 's/^#define NDUSHAVIRE_VERSION "\(.*\)"$/\1/p' include/ndushavire.h)
+    version=$(header_version)
     text=$(<"packaging/$1.pc.in")
     text=${text//@PREFIX@/"$prefix"}
     text=${text//@LIBDIR@/"$(under "$libdir")"}

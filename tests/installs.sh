@@ -19,7 +19,7 @@ for library in "${libraries[@]}"; do
         sed -n '/^\.Sh NAME/,/^\.Nd/p' "$top/man/$library.3" | grep -q -E "^\.Nm $name( ,)?\$" || fail "$library(3) does not name $name"
     done
 done
-version=$(sed -n 's/^#define NDUSHAVIRE_VERSION "\(.*\)"$/\1/p' "$top/include/ndushavire.h")
+version=$(header_version)
 quiet() { make -s -C "$top" "$@"; }
 
 # What should be there under a prefix; of documents, pages and examples whatever the tree has.

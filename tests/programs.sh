@@ -20,7 +20,7 @@ refused() { # PROGRAM ARGUMENT..
     [ ! -s out ] || fail "$*: writes '$(cat out)' to standard output"
     [ "$(cat errors)" = "$1: no arguments are taken but --help or --version alone" ] || fail "$*: says '$(cat errors)' on standard error"
 }
-version=$(sed -n 's/^#define NDUSHAVIRE_VERSION "\(.*\)"$/\1/p' "$top/include/ndushavire.h")
+version=$(header_version)
 
 # The table here is sound and the other one is not, so that one taken for the other shows.
 "$maketable" table "$top/examples/households.txt" >table

@@ -322,7 +322,7 @@ says 1 'the example of ndushavire-report(1)' <"$room/shown"
 lay "$lir"
 for report in "${reports[@]}"; do
     of() { "${run[@]}" "$report" "$@" >"$room/said" 2>"$room/errors"; }
-    version=$(sed -n 's/^#define NDUSHAVIRE_VERSION "\(.*\)"$/\1/p' "$top/include/ndushavire.h")
+    version=$(header_version)
     of --version && [ "$(cat "$room/said")" = "ndushavire-report $version" ] || fail "$report --version says '$(cat "$room/said")'"
     of --help && grep -q '^usage: ndushavire-report \[-e EDITION\] \[-f FEATURES\] TABLE' "$room/said" || fail "$report --help says '$(cat "$room/said")'"
     # A pipe, and no vectors.

@@ -21,6 +21,7 @@ fail() {
     exit 1
 }
 
+header_version() { sed -n 's/^#define NDUSHAVIRE_VERSION "\(.*\)"$/\1/p' "$top/include/ndushavire.h"; }
 # An empty room, with these folders in it.
 make_room() { # ROOM [FOLDER]..
     local folder

@@ -357,7 +357,7 @@ ends() { # STATUS COMMAND..
     [ "$status" = "$1" ] && [ ! -s "$room/said" ] && [ -s "$room/errors" ] || fail "${*:2}: not reported, or status $status instead of $1"
     tried=$((tried + 1))
 }
-version=$(sed -n 's/^#define NDUSHAVIRE_VERSION "\(.*\)"$/\1/p' "$(dirname "$0")/../include/ndushavire.h")
+version=$(header_version)
 for check in "${checks[@]}"; do
     ends 2 "${run[@]}" "$check" "$table" "$room/none"
     ends 2 "${run[@]}" "$check" "$room" "$profile"

@@ -152,7 +152,7 @@ fails() { # PHRASE ABOUT ARGUMENT..
     [ "$(files)" = "$before" ] || fail "$2: $take alters $(files)"
     tried=$((tried + 1))
 }
-version=$(sed -n 's/^#define NDUSHAVIRE_VERSION "\(.*\)"$/\1/p' "$top/include/ndushavire.h")
+version=$(header_version)
 for take in "${takes[@]}"; do
     fails 'it is the area itself' 'the area twice' "$area" "$area" "$profile"
     fails 'it is the area itself' 'the profile as the area' "$profile" "$new" "$profile"

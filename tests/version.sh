@@ -6,7 +6,7 @@ cd "$top"
 said() { # WHAT EXPECTED FOUND
     [ "$2" = "$3" ] || fail "the header is of $version, and $1 says '$3' instead of '$2'"
 }
-version=$(sed -n 's/^#define NDUSHAVIRE_VERSION "\(.*\)"$/\1/p' include/ndushavire.h)
+version=$(header_version)
 [[ $version =~ ^(0|[1-9][0-9]*)\.(0|[1-9][0-9]?)\.(0|[1-9][0-9]?)$ ]] || fail "the header's version is '$version'"
 number=$((BASH_REMATCH[1] * 10000 + BASH_REMATCH[2] * 100 + BASH_REMATCH[3]))
 said NDUSHAVIRE_VERSION_NUMBER "$number" "$(sed -n 's/^#define NDUSHAVIRE_VERSION_NUMBER \([0-9]*\) .*/\1/p' include/ndushavire.h)"
