@@ -14,7 +14,7 @@ endif
 export PYTHONDONTWRITEBYTECODE := 1
 .PHONY: help run test quick clean fmt kit pages header examples tables texts aims stores programs reference installs cited narrow bench stack installable install uninstall
 .PHONY: unsound reports moves takes cuts recipes daemon peers differential plain noticed soak mutants stats definitions-check cases
-.PHONY: voicemail documents parsed promises spreadsheet long
+.PHONY: voicemail documents parsed promises spreadsheet long ends
 
 MACHINE := $(shell uname -m)
 ifeq ($(MACHINE),x86_64)
@@ -76,7 +76,7 @@ target/bin/%: $(PROVED)
 
 # The parts of make test, the longest first. What they need is made before, once, and what needs the archive waits for it alone.
 PARTS := stores differential daemon reference tables narrow texts examples installs recipes cited programs noticed takes pages kit fmt header aims unsound reports moves \
-    documents voicemail promises
+    documents voicemail promises ends
 MADE := $(ARCHIVES) $(BINARY)
 # A script of the tests in a room of its name.
 in_room = RUN='$(RUN)' tests/$(1).sh target/test/$(1)
@@ -99,6 +99,11 @@ fmt:
 #: kit                whether .ci/run refuses another kit than the one that is pinned in KIT-ID
 kit:
 	tests/kit.sh target/test/kit
+
+#: ends               whether whatever a test starts ends with it, also when it fails or is told to end; whether make long keeps its time and tells what it covered
+ends:
+	tests/ends.sh target/test/ends
+	tests/long.sh target/test/long.sh
 
 #: pages              the worked table of docs/TABLE.md; what the pages say of commands and versions, quote of the sources and name in them; whether a stale one is noticed
 pages: target/c/maketable target/c/showtable
