@@ -31,6 +31,7 @@ STATEMENTS = {
     'list_laws/Exactly': '02 [14]',
     'list_laws/FirstLine': '02 [14]',
     'list_laws/Refusing': '02 [14]',
+    'list_laws/Words': '02 [14]',
     'moving/Moving': '02 [5]',
     'neighbour/Neighbour': '02 [9]',
     'older_rules/Sets': '02 [6]',

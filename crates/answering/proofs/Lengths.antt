@@ -13,7 +13,8 @@ use Rattle.parts.specs.Profile.{profileAt}
 use Rattle.reply.specs.Pieces.{topBytes, givenBytes}
 use Rattle.envelope.proofs.Lengths.{front-length, header-length, origin-length}
 use Rattle.reply.proofs.Lengths.{list-length, names-length, data-length}
-use Rattle.answering.specs.Answer.{failedPart, proxies, endBytes, restBytes, bodyBytes, answerBytes}
+use Rattle.envelope.specs.End.{failedPart, proxies, endBytes}
+use Rattle.answering.specs.Answer.{restBytes, bodyBytes, answerBytes}
 use Rattle.envelope.proofs.Copies.{session-proxies}
 
 -- 3,772 bytes are bounded by the table's fields and by 16 vectors; the rest comes from the request and from the profile file

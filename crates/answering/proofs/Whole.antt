@@ -6,7 +6,8 @@ use Rattle.reading.specs.declared.Terms.{Terms}
 use Rattle.requests.specs.Features.{listCalled, wantedOf}
 use Rattle.requests.specs.declared.features.Wanted.{Wanted}
 use Rattle.choices.specs.declared.Given.{Given}
-use Rattle.reply.specs.Pieces.{topBytes, headerBytes}
+use Rattle.envelope.specs.Header.{headerBytes}
+use Rattle.reply.specs.Pieces.{topBytes}
 use Rattle.envelope.proofs.Rooms.{room-left, room-right}
 use Rattle.envelope.proofs.Lengths.{header-length}
 use Rattle.answering.specs.Answer.{restBytes, bodyBytes, answerBytes}

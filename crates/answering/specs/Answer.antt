@@ -4,9 +4,9 @@ use mathlib.Core.List.{List, _++_}
 use lib.ListN.{length}
 use Rattle.reading.specs.declared.Terms.{Terms}
 use Rattle.choices.specs.declared.Given.{Given}
-pub use Rattle.envelope.specs.End.{failedPart}
-unfoldable pub use Rattle.envelope.specs.End.{proxy, proxies, endBytes}
-use Rattle.reply.specs.Pieces.{topBytes, givenBytes, headerBytes}
+use Rattle.envelope.specs.End.{endBytes}
+use Rattle.envelope.specs.Header.{headerBytes}
+use Rattle.reply.specs.Pieces.{topBytes, givenBytes}
 
 -- what a decision gives, and the end; with what every answer has; with the header, which has the answer's own length
 unfoldable pub restBytes : List ℕ → List ℕ → List ℕ → List ℕ → Given → List ℕ

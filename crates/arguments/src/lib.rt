@@ -59,7 +59,7 @@ fn reply(asked: Asked, program: &[u8], help: &[u8]) {
         Asked::Help => say(help),
         Asked::Version => {
             say(program);
-            say(b" 0.15.0\n");
+            say(b" 0.16.0\n");
         }
         Asked::Other => refuse(program),
     }

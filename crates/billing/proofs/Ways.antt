@@ -1,5 +1,5 @@
 -- What each way through an import leaves.
-use Rattle.octets.specs.Standard.{ℕ, _+_, _*_, _<_, _≤_, Bool, true, false, _&&_, cond, _≡_, refl, sym, _∙_, ap, arith, List, length, getD}
+use Rattle.octets.specs.Standard.{ℕ, _+_, _*_, _<_, _≤_, Bool, true, false, _&&_, cond, _≡_, refl, sym, _∙_, arith, List, length, getD}
 use Rattle.octets.specs.Standard.{eqb, eq-eqb, ne-eqb, lt-ltb, le-ltb}
 use Rattle.octets.specs.Run.{Wrote}
 use Rattle.record.specs.Fields.{countOf}
@@ -8,7 +8,7 @@ use Rattle.blocks.specs.Blocks.{firstBad}
 use Rattle.blocks.specs.declared.Checked.{Checked}
 use Rattle.blocks.specs.declared.Checked.the-variants.{Sound, Bad}
 use Rattle.blocks.proofs.First.{FirstNot, bad-says, bad-sound, good-count}
-use Rattle.listing.specs.Export.{AfterList, came, writing, exported}
+use Rattle.listing.specs.Export.{came, writing}
 use Rattle.listing.specs.declared.Listed.{Listed}
 use Rattle.listing.specs.declared.Listed.the-variants.{Written, Refused}
 use Rattle.importing.specs.Said.{placeOf, tableSaid, holdsAt, isTitled, overRecords, firstWrong}
@@ -16,7 +16,6 @@ use Rattle.importing.specs.Import.{fitHeader, importPast, imported}
 use Rattle.importing.proofs.Accepts.{header-fits, said-size}
 use Rattle.judging.specs.Fit.{Fit}
 use Rattle.judging.proofs.Passes.{titled-long}
-use Rattle.billing.specs.Promise.{listWord, ExportPromise, ImportPromise}
 
 -- The header block.
 module _ (b : List ℕ) where
@@ -97,14 +96,3 @@ module _ (list header area : List ℕ) (file : ℕ) {x : Bool} (e : x ≡ fitHea
   pub import-not : x ≡ false → came (Refused 5 0) area ≡ imported list header file area
   unfolding imported
   import-not f = rw (← e, f)
-
--- As words.
-pub export-promised : (table profile list : List ℕ) {l : Listed} {w : ℕ} {list' : List ℕ} → came l list' ≡ exported table (length profile) list
-    → w ≡ listWord l → ExportPromise table profile list w list'
-export-promised table profile list e f =
-    record { word-is = f ∙ ap (λ (o : AfterList). listWord (o .said)) e; list-is = ap (λ (o : AfterList). o .area) e }
-
-pub import-promised : (list header profile table : List ℕ) {l : Listed} {w : ℕ} {table' : List ℕ} → came l table' ≡ imported list header (length profile) table
-    → w ≡ listWord l → ImportPromise list header profile table w table'
-import-promised list header profile table e f =
-    record { word-is = f ∙ ap (λ (o : AfterList). listWord (o .said)) e; table-is = ap (λ (o : AfterList). o .area) e }

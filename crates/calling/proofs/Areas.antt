@@ -11,12 +11,13 @@ use Rattle.reading.specs.declared.Terms.{Terms}
 use Rattle.calling.specs.Call.{Refused}
 use Rattle.calling.specs.declared.Came.{Came}
 use Rattle.calling.specs.Lent.{Lent, lent, holding, tableOnly, putBack}
-use Rattle.calling.specs.Serve.{Served, SameCall, earlyTrials, fileTrials, refused, answered, answeredBy, checkOf, checkValue, decided}
+use Rattle.refusals.specs.Early.{earlyTrials, checkValue}
+use Rattle.calling.specs.Serve.{Served, SameCall, fileTrials, refused, answered, answeredBy, checkOf, decided}
 use Rattle.calling.specs.Serve.{serveFound, serveTableBy, serveTable, overArea, serve}
-use Rattle.calling.specs.Trial.{tried, anyHolds}
+use Rattle.refusals.specs.Trial.{tried, anyHolds}
 use Rattle.calling.specs.Leaves.{Leaves, Comes}
 use Rattle.calling.proofs.Kept.{serve-by, table-checked}
-use Rattle.calling.proofs.Trials.{tried-past}
+use Rattle.refusals.proofs.Trials.{tried-past}
 
 -- A TABLE PUT BACK. It is as large as the one that was there: as many bytes, and as many by its count.
 pub record AsLarge (t u : List ℕ) : Type 0 where

@@ -9,16 +9,16 @@ use Rattle.reading.specs.declared.Dialect.{Dialect}
 use Rattle.reading.specs.declared.Terms.{Terms}
 use Rattle.requests.specs.Request.{dialectOf}
 use Rattle.deciding.specs.Decide.{decide}
-pub use Rattle.refusals.proofs.Passing.{length-even, size-least, size-most}
 use Rattle.refusals.proofs.Passing.{lets, none}
 use Rattle.deciding.specs.Answers.{Tells}
 use Rattle.deciding.specs.declared.Told.{Told}
 use Rattle.calling.specs.declared.Came.{Came}
 use Rattle.calling.specs.Lent.{Lent, lent}
-use Rattle.calling.specs.Trial.{tried}
-use Rattle.calling.specs.Serve.{refused, answeredBy, unknownPeer, smallBuffer, wrongSize, wrongLength, noRequest, checkOf, checkValue}
+use Rattle.refusals.specs.Trial.{tried}
+use Rattle.refusals.specs.Early.{unknownPeer, smallBuffer, wrongSize, noRequest, checkValue, wrongLength, early}
+use Rattle.calling.specs.Serve.{refused, answeredBy, checkOf}
 use Rattle.calling.specs.Serve.{serveFound, serveTableBy, serveTable}
-use Rattle.calling.specs.Leaves.{Leaves, early, serveChecked}
+use Rattle.calling.specs.Leaves.{Leaves, serveChecked}
 use Rattle.calling.specs.declared.Came.the-variants as came
 
 pub checked-sound : (t : List ℕ) (n count : ℕ) {c : Checked} → c ≡ checkTable t n → c ≡ Sound count → SoundTable t count

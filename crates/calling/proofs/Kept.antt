@@ -7,12 +7,13 @@ use Rattle.table.specs.SoundTable.{SoundTable}
 use Rattle.vectors.specs.VectorFile.{checkVectors, SoundVectors}
 use Rattle.rewrite.proofs.Sound.{keeping-sound}
 use Rattle.deciding.proofs.Kept.{decide-keeping, decide-vectors}
-use Rattle.deciding.proofs.Tests.{neither}
+use Rattle.refusals.proofs.Passing.{neither}
 use Rattle.calling.specs.Lent.{Lent, dialectIn}
-use Rattle.calling.specs.Trial.{Trial, anyHolds}
-use Rattle.calling.specs.Serve.{Served, unknownPeer, smallBuffer, wrongSize, wrongLength, noRequest, isBad, checkOf, checkValue, trials}
+use Rattle.refusals.specs.Trial.{Trial, anyHolds}
+use Rattle.refusals.specs.Early.{unknownPeer, smallBuffer, wrongSize, noRequest, isBad, checkValue, wrongLength}
+use Rattle.calling.specs.Serve.{Served, checkOf, trials}
 use Rattle.calling.specs.Serve.{refused, answered, answeredBy, decided, serveFound, serveTableBy, serveTable}
-use Rattle.calling.proofs.Trials.{tried-by}
+use Rattle.refusals.proofs.Trials.{tried-by}
 
 -- a file that is not bad is sound
 pub sound-count : (c : Checked) → isBad c ≡ false → c ≡ Sound (checkValue c)

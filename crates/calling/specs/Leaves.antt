@@ -6,9 +6,9 @@ use Rattle.blocks.specs.declared.Checked.{Checked}
 use Rattle.rewrite.specs.Change.{alteredUpTo}
 use Rattle.diameter.specs.Message.{commandOf}
 use Rattle.calling.specs.Lent.{Lent}
-unfoldable pub use Rattle.refusals.specs.Early.{early}
-use Rattle.calling.specs.Trial.{tried}
-use Rattle.calling.specs.Serve.{Served, fileTrials, refused, answered, decision, checkValue}
+use Rattle.refusals.specs.Trial.{tried}
+use Rattle.refusals.specs.Early.{checkValue}
+use Rattle.calling.specs.Serve.{Served, fileTrials, refused, answered, decision}
 use Rattle.calling.specs.declared.Came.{Came}
 use Rattle.calling.specs.declared.Came.the-variants as came
 use Rattle.calling.specs.Call.{Call, Answered, Refused}

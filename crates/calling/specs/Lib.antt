@@ -2,4 +2,3 @@ pub mod Call
 pub mod Leaves
 pub mod Lent
 pub mod Serve
-pub mod Trial

@@ -9,12 +9,10 @@ use Rattle.vectors.specs.VectorFile.{checkVectors}
 use Rattle.deciding.specs.Rules.{Rules, inForce}
 use Rattle.deciding.specs.Decide.{Decision, decideBy}
 use Rattle.reading.specs.declared.Outcome.{Outcome}
-use Rattle.reading.specs.declared.Terms.{Terms}
-pub use Rattle.refusals.specs.Early.{unknownPeer, smallBuffer, wrongSize, noRequest, earlyTrials, isBad, checkValue, unsound}
-unfoldable pub use Rattle.refusals.specs.Early.{wrongLength}
+use Rattle.refusals.specs.Early.{earlyTrials, isBad, checkValue, unsound}
 use Rattle.calling.specs.Call.{Call, Answered, Refused}
 use Rattle.calling.specs.Lent.{Lent, tableOnly, putBack, dialectIn}
-use Rattle.calling.specs.Trial.{Trial, tried}
+use Rattle.refusals.specs.Trial.{Trial, tried}
 
 -- what comes of a call
 pub record Served : Type 0 where

@@ -12,7 +12,8 @@ ghost use Rattle.vectors.specs.VectorFile.{checkVectors};
 ghost use Rattle.requests.specs.Request.{dialectOf};
 ghost use Rattle.refusals.specs.Passed.{Passed};
 ghost use Rattle.calling.specs.Lent.{lent};
-ghost use Rattle.calling.specs.Serve.{checkOf, checkValue, serveTable, serve};
+ghost use Rattle.refusals.specs.Early.{checkValue};
+ghost use Rattle.calling.specs.Serve.{checkOf, serveTable, serve};
 ghost use Rattle.calling.specs.Leaves.{Leaves, Comes, serveChecked};
 
 // The last refusal, by its number.

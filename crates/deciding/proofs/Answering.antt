@@ -28,7 +28,7 @@ use Rattle.deciding.specs.Decide.{faulted, featureUnsupported, performed
 use Rattle.deciding.specs.Deeds.{carriedOut, spentBy}
 use Rattle.deciding.proofs.Deeds.{plan-fits, plan-light, plan-sendable}
 use Rattle.deciding.proofs.Room.{given-most}
-use Rattle.deciding.specs.Passed.{Passed}
+use Rattle.refusals.specs.Passed.{Passed}
 use Rattle.deciding.specs.Answers.{Planned, Tells}
 use Rattle.requests.specs.declared.Walked.the-variants as walked
 

@@ -32,7 +32,7 @@ use Rattle.requests.specs.Features.{beyondSet}
 use Rattle.requests.specs.Identity.{placesFrom}
 use Rattle.requests.specs.Judged.{Judged, bad, fine}
 use Rattle.requests.specs.Request.{readIn, given, dataSeen, schemeOf, identities}
-use Rattle.requests.proofs.Kept.{read-needed, read-spoken, server-most, server-least}
+use Rattle.requests.proofs.Kept.{read-needed, read-spoken, server-most, server-least, read-command}
 use Rattle.requests.proofs.Naming.{identities-at}
 use Rattle.choices.specs.Challenges.{claimOf, challengeOf}
 use Rattle.choices.specs.Choices.{authorization, location}
@@ -66,7 +66,7 @@ use Rattle.assignment.proofs.Rows.{row-fits}
 use Rattle.deciding.specs.Plans.{assignmentOf, uarPlan, sarPlan, lirPlan, marPlan, planRead}
 use Rattle.deciding.specs.Rules.{inForce}
 use Rattle.deciding.specs.Decide.{Decision, faulted, featureUnsupported, performedBy, judgedBy, decideBy, decide}
-use Rattle.deciding.proofs.Read.{Fails, fails-listed, read-fails, read-command}
+use Rattle.deciding.proofs.Read.{Fails, fails-listed, read-fails}
 use Rattle.deciding.proofs.Tests.{either}
 use Rattle.deciding.proofs.Cases.{Blameless, Succeeds, Carries, carries-fault, sending, Tells, Owner, the-user, the-first, Comes, tells}
 use Rattle.deciding.proofs.Cases.{settles, challenges, of-result, alone}

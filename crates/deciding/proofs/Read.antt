@@ -23,7 +23,6 @@ use Rattle.reading.specs.declared.Use.the-variants.{Unknown, Unnamed, Needed, O
 use Rattle.reading.specs.declared.Verdict.{Verdict}
 use Rattle.counting.specs.Results.{baseResults, indexIn}
 use Rattle.counting.specs.Counting.{listed, Listed}
-pub use Rattle.requests.proofs.Kept.{read-command}
 use Rattle.requests.specs.Judged.{Judged, bad, fine, nothing, onRule, judge}
 use Rattle.requests.specs.Request.{spoken, headerFault, firstOther, missing, complete, readWalk, readIn}
 use Rattle.deciding.proofs.Tests.{either}

@@ -10,7 +10,8 @@ use Rattle.failed.specs.Failing.{failedBy}
 use Rattle.envelope.proofs.Lengths.{failed-short}
 use Rattle.choices.specs.declared.Given.{Given}
 use Rattle.parts.specs.Profile.{profileAt}
-use Rattle.answering.specs.Answer.{failedPart, answerBytes}
+use Rattle.envelope.specs.End.{failedPart}
+use Rattle.answering.specs.Answer.{answerBytes}
 use Rattle.answering.proofs.Lengths.{answer-length}
 use Rattle.deciding.specs.Decide.{decide}
 use Rattle.deciding.proofs.Cases.{Blameless}

@@ -1,5 +1,4 @@
--- Laws of tests: what holds of both branches, of those of two tests that are one, and of two tests that fail.
-pub use Rattle.refusals.proofs.Passing.{neither}
+-- Laws of tests: what holds of both branches, and of those of two tests that are one.
 use Rattle.octets.specs.Standard.{Bool, true, false, cond}
 
 pub either : {X : Type 0} (P : X → Type 0) (x : Bool) {a b : X} → P a → P b → P (cond x a b)

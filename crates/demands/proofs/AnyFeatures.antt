@@ -14,14 +14,16 @@ use Rattle.reading.specs.declared.group.Group.the-variants.{Application, AuthDa
 use Rattle.requests.specs.Features.{beyondSet}
 use Rattle.requests.specs.Judged.{Judged, bad, fine, nothing, judge}
 use Rattle.requests.specs.Request.{readIn}
-use Rattle.reply.specs.Pieces.{frontBytes, topBytes}
+use Rattle.envelope.specs.Front.{frontBytes}
+use Rattle.reply.specs.Pieces.{topBytes}
 use Rattle.answering.specs.Answer.{bodyBytes, answerBytes}
 use Rattle.deciding.specs.Decide.{Decision, judgedBy, decideBy}
 use Rattle.deciding.specs.Plans.{planRead}
 use Rattle.deciding.specs.Rules.{inForce}
 use Rattle.calling.specs.Lent.{Lent, dialectIn}
-use Rattle.calling.specs.Trial.{Trial, tried}
-use Rattle.calling.specs.Serve.{Served, checkOf, checkValue, trials, refused, answered, answeredBy, decision, serveFound, serveTableBy, serveTable}
+use Rattle.refusals.specs.Trial.{Trial, tried}
+use Rattle.refusals.specs.Early.{checkValue}
+use Rattle.calling.specs.Serve.{Served, checkOf, trials, refused, answered, answeredBy, decision, serveFound, serveTableBy, serveTable}
 use Rattle.older_rules.specs.WithoutFeatures.{NoFeatures}
 use Rattle.requests.proofs.Featured.{none-beyond}
 use Rattle.older_rules.proofs.Features.{none-listed, on-same}

@@ -29,7 +29,8 @@ use Rattle.questions.specs.Carried.{carried}
 use Rattle.deciding.specs.Plans.{uarPlan, planRead}
 use Rattle.deciding.specs.Decide.{performedBy, judgedBy, decideBy}
 use Rattle.calling.specs.Lent.{Lent, dialectIn}
-use Rattle.calling.specs.Serve.{checkOf, checkValue, decision, decided, resultOf}
+use Rattle.refusals.specs.Early.{checkValue}
+use Rattle.calling.specs.Serve.{checkOf, decision, decided, resultOf}
 use Rattle.older_rules.proofs.Sets.{AllBarred, barred-says, barred-holds}
 use Rattle.demands.specs.Call.{Decides}
 use Rattle.demands.specs.Sets.{Shares, BarredAlone, Stands, Belongs, Barred}

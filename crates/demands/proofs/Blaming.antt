@@ -16,16 +16,18 @@ use Rattle.requests.specs.Request.{readIn}
 use Rattle.failed.specs.Failing.{failedOf, failedBy}
 use Rattle.choices.specs.Given.{givenFault}
 use Rattle.reply.specs.Pieces.{identityBytes, nameBytes, dataBytes, givenBytes}
-use Rattle.answering.specs.Answer.{endBytes, restBytes, bodyBytes, answerBytes}
+use Rattle.envelope.specs.End.{endBytes}
+use Rattle.answering.specs.Answer.{restBytes, bodyBytes, answerBytes}
 use Rattle.deciding.specs.Rules.{inForce}
 use Rattle.deciding.specs.Decide.{Decision, faulted, performedBy, judgedBy, decideBy, decide}
 use Rattle.deciding.proofs.Tests.{either}
 use Rattle.calling.specs.Call.{Answered}
 use Rattle.calling.specs.Lent.{Lent, tableOnly, dialectIn}
 use Rattle.ndushavire.specs.Reads.{callPlace}
-use Rattle.calling.specs.Serve.{Served, checkOf, answered, answeredBy, serveTable, overArea, serve, checkValue, resultOf}
+use Rattle.refusals.specs.Early.{checkValue}
+use Rattle.calling.specs.Serve.{Served, checkOf, answered, answeredBy, serveTable, overArea, serve, resultOf}
 use Rattle.calling.proofs.Areas.{put-same}
-use Rattle.calling.proofs.Calls.{size-most, length-even}
+use Rattle.refusals.proofs.Passing.{size-most, length-even}
 use Rattle.demands.specs.Call.{turnedAway}
 use Rattle.demands.specs.Place.{Blames, faultBody, faultBytes, blaming}
 use Rattle.calling.proofs.Kept.{taken}

@@ -9,7 +9,7 @@ use Rattle.diameter.specs.Avp.{padded, avpHead, avpLen, sound}
 use Rattle.diameter.specs.Put.{Piece, bytesOf, Whole, All}
 use Rattle.diameter.proofs.Walks.{sound-says, sound-of}
 use Rattle.diameter.proofs.Reading.{flags-take}
-use Rattle.calling.specs.Serve.{wrongLength}
+use Rattle.refusals.specs.Early.{wrongLength}
 use Rattle.demands.specs.Insertion.{message, Cut}
 
 -- bytes cut into a row of whole AVPs and what is behind it

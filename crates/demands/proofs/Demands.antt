@@ -17,7 +17,8 @@ use Rattle.diameter.specs.Message.{commandOf}
 use Rattle.rewrite.specs.Keeps.{alterable}
 use Rattle.calling.specs.Call.{Answer, Answered, Refused}
 use Rattle.calling.specs.Lent.{Lent, asking, holding, tableOnly, dialectIn}
-use Rattle.calling.specs.Serve.{SameCall, wrongSize, wrongLength, checkOf, trials, answeredBy, decision, serveTable, overArea, serve}
+use Rattle.refusals.specs.Early.{wrongSize, wrongLength}
+use Rattle.calling.specs.Serve.{SameCall, checkOf, trials, answeredBy, decision, serveTable, overArea, serve}
 use Rattle.calling.proofs.Areas.{served-in, served-length, served-rest, served-stays, serve-exact, alike-call, alike-table, check-in}
 use Rattle.ndushavire.specs.Word.{callWord}
 use Rattle.ndushavire.specs.Reads.{callNumber, callValue, callIn, Reads, ReadsCheck, ReadsMove, ReadsTake}

@@ -25,11 +25,13 @@ use Rattle.requests.proofs.Featured.{rule-is}
 use Rattle.choices.specs.Given.{givenFault}
 use Rattle.failed.specs.Failing.{failedBy, failedOf}
 use Rattle.reply.specs.Pieces.{identityBytes, nameBytes, dataBytes, givenBytes, listBytes, topBytes}
-use Rattle.answering.specs.Answer.{endBytes, restBytes, bodyBytes, answerBytes}
+use Rattle.envelope.specs.End.{endBytes}
+use Rattle.answering.specs.Answer.{restBytes, bodyBytes, answerBytes}
 use Rattle.deciding.specs.Decide.{Decision, faulted, featureUnsupported, judgedBy, decideBy, decide}
 use Rattle.calling.specs.Call.{Answered}
 use Rattle.calling.specs.Lent.{Lent, tableOnly, dialectIn}
-use Rattle.calling.specs.Serve.{Served, checkOf, checkValue, answerOf, answered, answeredBy, decided, resultOf, serveTable, overArea, serveBy, serve}
+use Rattle.refusals.specs.Early.{checkValue}
+use Rattle.calling.specs.Serve.{Served, checkOf, answerOf, answered, answeredBy, decided, resultOf, serveTable, overArea, serveBy, serve}
 use Rattle.calling.proofs.Areas.{put-same}
 use Rattle.calling.proofs.Kept.{taken}
 use Rattle.ndushavire.specs.Reads.{callPlace}

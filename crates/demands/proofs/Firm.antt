@@ -12,7 +12,7 @@ use Rattle.vectors.specs.VectorFile.{piecesOf, soundPiece, checkVectors}
 use Rattle.vectors.proofs.Pieces.{piece-near}
 use Rattle.calling.specs.Call.{Answer, Answered, Refused}
 use Rattle.calling.specs.Lent.{Lent}
-use Rattle.calling.specs.Serve.{checkValue}
+use Rattle.refusals.specs.Early.{checkValue}
 use Rattle.ndushavire.specs.Word.{word, checkWord, callWord, moveWord, takeWord}
 use Rattle.ndushavire.specs.Reads.{numberIn, takeNumber, Reads, ReadsCheck, ReadsMove, ReadsTake}
 use Rattle.ndushavire.proofs.Parts.{parts}

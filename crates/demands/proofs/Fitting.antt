@@ -1,7 +1,7 @@
 -- Every answer fits: no request within the limits has one that is longer than the smallest buffer.
 use Rattle.octets.specs.Standard.{length}
 use Rattle.calling.specs.Lent.{Lent, dialectIn}
-use Rattle.calling.proofs.Calls.{size-least, size-most, length-even}
+use Rattle.refusals.proofs.Passing.{size-least, size-most, length-even}
 use Rattle.deciding.proofs.Room.{answer-most}
 use Rattle.demands.specs.Call.{Fits}
 

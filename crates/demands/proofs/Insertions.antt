@@ -15,7 +15,8 @@ use Rattle.requests.proofs.Insert.{stranger-kind, identity-known, features-know
 use Rattle.deciding.specs.Rules.{inForce}
 use Rattle.deciding.specs.Decide.{faulted, judgedBy, decideBy, decide}
 use Rattle.calling.specs.Lent.{Lent, asking}
-use Rattle.calling.specs.Serve.{checkOf, answered, answeredBy, decision, serveTable, checkValue}
+use Rattle.refusals.specs.Early.{checkValue}
+use Rattle.calling.specs.Serve.{checkOf, answered, answeredBy, decision, serveTable}
 use Rattle.calling.proofs.Kept.{taken}
 use Rattle.demands.specs.Call.{turnedAway}
 use Rattle.demands.specs.Insertion.{message, requestOf, Foreign, Quiet, Inserted, keep, FirstMarked, isFault, faultIn}
@@ -27,7 +28,7 @@ use Rattle.demands.proofs.Messages.{message-dialect, message-read, read
 use Rattle.demands.proofs.Rows.{inserted-same, foreign-proxies, foreign-some, readFrom, frontOther, frontJudged, placeBehind, long-fit, short-fit}
 use Rattle.demands.proofs.Rows.{unmarked-moved, marked-inserted, before-whole, front-moved, long-read, fault-moved, mark-judges, mark-failed}
 use Rattle.demands.proofs.Rows as rows
-pub use Rattle.demands.proofs.Rows.{quiet-foreign, none-before}
+use Rattle.demands.proofs.Rows.{quiet-foreign, none-before}
 
 -- the folds that pass over unknown kinds: the identities, which every command of Cx knows, and the copies
 foreign-identities : (dialect : Dialect) → (dialect .terms .application ≡ sh → ⊥) → {qs rs : List Piece} → Inserted (Foreign dialect) qs rs → (w : Walk)

@@ -15,7 +15,7 @@ use Rattle.reading.specs.declared.Use.the-variants.{Repeated}
 use Rattle.reading.specs.declared.Verdict.{Verdict}
 use Rattle.requests.specs.Judged.{Judged, bad, fine, nothing, onRule, judge}
 use Rattle.requests.specs.Request.{headerFault, missingFrom, missing, complete, readWalk, identities}
-use Rattle.answering.specs.Answer.{proxy, proxies}
+use Rattle.envelope.specs.End.{proxy, proxies}
 use Rattle.demands.proofs.Messages.{readBodyBy, readBody}
 
 fine-bad : {A : Type 0} (seen : Seen) (v : Verdict) → bad v ≡ fine seen → A

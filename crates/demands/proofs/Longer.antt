@@ -12,7 +12,8 @@ use Rattle.demands.specs.Call.{turnedAway}
 use Rattle.demands.specs.Insertion.{requestOf, Foreign, isMarked, Quiet, Inserted, ending, keep, put, FirstMarked, faultIn, unsupported}
 use Rattle.demands.specs.Insertion.{Longer, Mark, sizeOf, putBefore, placeNow, placed, behindRow, behind, firstMark, newer, Newer}
 use Rattle.demands.proofs.Blaming.{blamingTable, blaming-over}
-use Rattle.demands.proofs.Insertions.{none-before, unmarked-same, both-refused, marked-kept, mark-answered, fault-more}
+use Rattle.demands.proofs.Rows.{none-before}
+use Rattle.demands.proofs.Insertions.{unmarked-same, both-refused, marked-kept, mark-answered, fault-more}
 
 -- none is marked
 pub record None {dialect : Dialect} {qs rs : List Piece} (i : Inserted (Foreign dialect) qs rs) : Type 0 where

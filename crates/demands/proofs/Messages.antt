@@ -19,10 +19,13 @@ use Rattle.choices.specs.declared.Given.{Given}
 use Rattle.deciding.specs.Rules.{inForce}
 use Rattle.deciding.proofs.Tests.{each}
 use Rattle.deciding.specs.Decide.{Decision, featureUnsupported, performedBy, judgedBy, decideBy, decide}
-use Rattle.reply.specs.Pieces.{listBytes, topBytes, identityBytes, nameBytes, dataBytes, givenBytes, headerBytes}
-use Rattle.answering.specs.Answer.{proxies, endBytes, restBytes, bodyBytes, answerBytes}
+use Rattle.envelope.specs.Header.{headerBytes}
+use Rattle.reply.specs.Pieces.{listBytes, topBytes, identityBytes, nameBytes, dataBytes, givenBytes}
+use Rattle.envelope.specs.End.{proxies, endBytes}
+use Rattle.answering.specs.Answer.{restBytes, bodyBytes, answerBytes}
 use Rattle.calling.specs.Lent.{Lent, asking}
-use Rattle.calling.specs.Serve.{wrongSize, wrongLength, noRequest, checkOf, answered, answeredBy, decision, serveTable, checkValue}
+use Rattle.refusals.specs.Early.{wrongSize, noRequest, checkValue, wrongLength}
+use Rattle.calling.specs.Serve.{checkOf, answered, answeredBy, decision, serveTable}
 use Rattle.demands.specs.Call.{turnedAway}
 use Rattle.demands.specs.Insertion.{message, later, placed}
 use Rattle.demands.proofs.Refusals.{refused-alike, refused-placed, answer-is}

@@ -26,7 +26,8 @@ use Rattle.reading.specs.declared.Dialect.{Dialect}
 use Rattle.deciding.proofs.Cases.{Blameless}
 use Rattle.deciding.proofs.Comes.{plan-blameless}
 use Rattle.calling.specs.Lent.{Lent, asking, dialectIn}
-use Rattle.calling.specs.Serve.{checkOf, checkValue, answered, answeredBy, decision, serveTable}
+use Rattle.refusals.specs.Early.{checkValue}
+use Rattle.calling.specs.Serve.{checkOf, answered, answeredBy, decision, serveTable}
 use Rattle.demands.specs.Call.{turnedAway, Decides}
 use Rattle.demands.specs.Insertion.{message}
 use Rattle.demands.specs.Sets.{Removes, OneFewer, Member}

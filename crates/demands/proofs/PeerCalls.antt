@@ -4,13 +4,15 @@ use Rattle.diameter.specs.Message.{bodyOf, commandOf}
 use Rattle.reading.specs.Groups.{rfc3588, rfc6733}
 use Rattle.requests.specs.Features.{listCalled}
 use Rattle.requests.specs.Request.{headerFault, readIn}
-use Rattle.reply.specs.Pieces.{frontBytes, listBytes, topBytes}
+use Rattle.envelope.specs.Front.{frontBytes}
+use Rattle.reply.specs.Pieces.{listBytes, topBytes}
 use Rattle.answering.specs.Answer.{bodyBytes, answerBytes}
 use Rattle.deciding.specs.Decide.{Decision}
 use Rattle.calling.specs.Call.{Refused}
 use Rattle.calling.specs.Lent.{Lent}
-use Rattle.calling.specs.Trial.{Trial, tried, anyHolds}
-use Rattle.calling.specs.Serve.{Served, unknownPeer, checkOf, checkValue, trials, refused, answered, answeredBy, decision, resultOf}
+use Rattle.refusals.specs.Trial.{Trial, tried, anyHolds}
+use Rattle.refusals.specs.Early.{unknownPeer, checkValue}
+use Rattle.calling.specs.Serve.{Served, checkOf, trials, refused, answered, answeredBy, decision, resultOf}
 use Rattle.calling.specs.Serve.{serveFound, serveTableBy, serveTable}
 use Rattle.demands.specs.Call.{turnedAway}
 use Rattle.demands.specs.Peers.{byPeer, OneVendor}

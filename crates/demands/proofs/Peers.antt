@@ -9,8 +9,9 @@ use Rattle.requests.specs.Request.{headerFault, firstOther, readIn}
 use Rattle.failed.specs.Failing.{failedOf}
 use Rattle.calling.specs.Call.{Refused}
 use Rattle.calling.specs.Lent.{Lent, tableOnly, dialectIn}
-use Rattle.calling.specs.Trial.{anyHolds}
-use Rattle.calling.specs.Serve.{Served, unknownPeer, overArea, serve}
+use Rattle.refusals.specs.Trial.{anyHolds}
+use Rattle.refusals.specs.Early.{unknownPeer}
+use Rattle.calling.specs.Serve.{Served, overArea, serve}
 use Rattle.calling.proofs.Areas.{put-same}
 use Rattle.ndushavire.specs.Reads.{callNumber, callPlace}
 use Rattle.demands.specs.Call.{turnedAway}

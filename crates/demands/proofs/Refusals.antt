@@ -8,18 +8,19 @@ use Rattle.blocks.specs.declared.Checked.the-variants.{Sound, Bad}
 use Rattle.diameter.specs.Put.{All}
 use Rattle.calling.specs.Call.{Answer, Call, Answered, Refused}
 use Rattle.calling.specs.Lent.{Lent, asking, dialectIn}
-use Rattle.calling.specs.Trial.{Trial, tried, anyHolds}
-use Rattle.calling.specs.Serve.{Served, unknownPeer, smallBuffer, wrongSize, wrongLength, noRequest, isBad, earlyTrials, unsound, checkOf, trials, refused}
-use Rattle.calling.specs.Serve.{answered, answeredBy, decision, checkValue, serveFound, serveTableBy, serveTable}
+use Rattle.refusals.specs.Trial.{Trial, tried, anyHolds}
+use Rattle.refusals.specs.Early.{unknownPeer, smallBuffer, wrongSize, noRequest, isBad, earlyTrials, unsound, checkValue, wrongLength}
+use Rattle.calling.specs.Serve.{Served, checkOf, trials, refused}
+use Rattle.calling.specs.Serve.{answered, answeredBy, decision, serveFound, serveTableBy, serveTable}
 use Rattle.ndushavire.specs.Word.{callWord}
 use Rattle.ndushavire.specs.Reads.{callNumber, callPlace, callValue, Reads}
-use Rattle.calling.proofs.Calls.{size-least, size-most}
+use Rattle.refusals.proofs.Passing.{size-least, size-most}
 use Rattle.demands.specs.Call.{turnedAway, answerTo, Fits, Exactly}
 use Rattle.demands.specs.Insertion.{placed}
 use Rattle.demands.proofs.Faults.{decide-within}
 use Rattle.demands.proofs.Firm.{check-most, answer-reads, refusal-reads}
 use Rattle.calling.proofs.Kept.{taken, serve-either}
-use Rattle.calling.proofs.Trials.{tried-by, tried-alike}
+use Rattle.refusals.proofs.Trials.{tried-by, tried-alike}
 use Rattle.demands.proofs.Trials.{exactly}
 
 -- an unsound file's first bad block

@@ -17,7 +17,7 @@ use Rattle.requests.specs.Request.{firstOther, missing, complete, readWalk}
 use Rattle.requests.proofs.Insert.{stranger-kind, proxy-known, judge-marked, andThen, judge-glue, past}
 use Rattle.failed.specs.Failing.{failedBy}
 use Rattle.failed.proofs.Fronts.{failed-piece, failed-whole}
-use Rattle.answering.specs.Answer.{proxy, proxies}
+use Rattle.envelope.specs.End.{proxy, proxies}
 use Rattle.demands.specs.Insertion.{message, requestOf, Foreign, isMarked, Quiet, Inserted, ending, keep, put, FirstMarked, isFault, faultBy}
 use Rattle.demands.specs.Insertion.{putBefore}
 use Rattle.demands.proofs.Moved.{Moved, faults, same, moved-as, moved-by, judge-amid, past-later, past-drop, failed-there}

@@ -20,8 +20,9 @@ use Rattle.questions.specs.Authorization.{askedAt}
 use Rattle.questions.specs.Carried.{carried}
 use Rattle.calling.specs.Call.{Refused}
 use Rattle.calling.specs.Lent.{Lent, asking, tableOnly, dialectIn}
-use Rattle.calling.specs.Serve.{checkOf, checkValue, earlyTrials, decided, resultOf, overArea, serveBy, serve}
-use Rattle.calling.specs.Trial.{anyHolds}
+use Rattle.refusals.specs.Early.{checkValue, earlyTrials}
+use Rattle.calling.specs.Serve.{checkOf, decided, resultOf, overArea, serveBy, serve}
+use Rattle.refusals.specs.Trial.{anyHolds}
 use Rattle.calling.proofs.Areas.{served-in}
 use Rattle.calling.proofs.Kept.{table-checked}
 use Rattle.ndushavire.specs.Reads.{ReadsCheck}

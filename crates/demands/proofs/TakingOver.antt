@@ -5,8 +5,9 @@ use Rattle.blocks.specs.declared.Checked.the-variants.{Bad}
 use Rattle.table.specs.Area.{sizeIn, tableIn, checkArea}
 use Rattle.table.proofs.Areas.{in-all, sound-size-in}
 use Rattle.calling.specs.Lent.{Lent, holding, tableOnly}
-use Rattle.calling.specs.Serve.{earlyTrials, serveTable, serve}
-use Rattle.calling.specs.Trial.{anyHolds}
+use Rattle.refusals.specs.Early.{earlyTrials}
+use Rattle.calling.specs.Serve.{serveTable, serve}
+use Rattle.refusals.specs.Trial.{anyHolds}
 use Rattle.calling.proofs.Areas.{bad-refused, served-in}
 use Rattle.taking.specs.TakeOver.{takeOver}
 use Rattle.taking.specs.Torn.{AllChosen, FirstMissing, NoneWithin, FirstWithin, lowerBlock}

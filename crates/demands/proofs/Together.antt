@@ -27,7 +27,8 @@ use Rattle.deciding.specs.Deeds.{carriedOut}
 use Rattle.deciding.specs.DeedFits.{DeedFits}
 use Rattle.deciding.proofs.Deeds.{plan-fits}
 use Rattle.calling.specs.Lent.{Lent, dialectIn}
-use Rattle.calling.specs.Serve.{checkOf, checkValue, refused, answeredBy, serveTable}
+use Rattle.refusals.specs.Early.{checkValue}
+use Rattle.calling.specs.Serve.{checkOf, refused, answeredBy, serveTable}
 use Rattle.calling.proofs.Kept.{serve-by}
 
 -- TOGETHER. Of two records of one set both have other bytes after a call, or neither.

@@ -2,7 +2,7 @@
 use Rattle.octets.specs.Standard.{ℕ, List, [], _∷_, _++_, Bool, true, false, cond, not, _||_, _&&_, _≡_, sym, _∙_, _≢_, eqb, eqb-false, eq-eqb}
 use Rattle.octets.specs.Standard.{ne-eqb}
 use Rattle.diameter.specs.Put.{All}
-use Rattle.calling.specs.Trial.{Trial, tried, anyHolds}
+use Rattle.refusals.specs.Trial.{Trial, tried, anyHolds}
 use Rattle.demands.specs.Call.{Exactly}
 
 -- the numbers differ, and none is 0

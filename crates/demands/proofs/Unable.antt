@@ -14,7 +14,7 @@ use Rattle.questions.specs.Authorization.{authorizeFound, authorize}
 use Rattle.questions.specs.Location.{locateFound, locate}
 use Rattle.deciding.specs.Plans.{uarPlan, sarPlan, lirPlan, marPlan, planRead}
 use Rattle.deciding.specs.Decide.{Decision, performedBy, judgedBy, decideBy, decide}
-use Rattle.deciding.proofs.Read.{read-command}
+use Rattle.requests.proofs.Kept.{read-command}
 use Rattle.reading.specs.declared.Dialect.{Dialect}
 use Rattle.calling.specs.Lent.{Lent, dialectIn}
 use Rattle.calling.specs.Serve.{checkOf, decisionBy}

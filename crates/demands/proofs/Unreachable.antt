@@ -17,7 +17,8 @@ use Rattle.reading.specs.Rules.{Seen}
 use Rattle.reading.specs.declared.Outcome.the-variants.{Base, Experimental}
 use Rattle.requests.specs.Request.{given, dataSeen, schemeOf, identities}
 use Rattle.calling.specs.Lent.{Lent, tableOnly, dialectIn}
-use Rattle.calling.specs.Serve.{checkOf, checkValue, decisionBy, resultOf, overArea, serveBy, serve}
+use Rattle.refusals.specs.Early.{checkValue}
+use Rattle.calling.specs.Serve.{checkOf, decisionBy, resultOf, overArea, serveBy, serve}
 use Rattle.older_rules.specs.WithBranch.{withBranch}
 use Rattle.demands.specs.Call.{Decides}
 use Rattle.demands.specs.Sets.{Stands, Belongs}

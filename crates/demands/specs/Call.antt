@@ -13,8 +13,9 @@ use Rattle.requests.specs.Features.{beyondSet}
 use Rattle.requests.specs.Judged.{fine}
 use Rattle.requests.specs.Request.{readIn}
 use Rattle.calling.specs.Lent.{Lent}
-use Rattle.calling.specs.Trial.{Trial, anyHolds}
-use Rattle.calling.specs.Serve.{wrongSize, wrongLength, checkOf, trials, answerOf, decision}
+use Rattle.refusals.specs.Trial.{Trial, anyHolds}
+use Rattle.refusals.specs.Early.{wrongSize, wrongLength}
+use Rattle.calling.specs.Serve.{checkOf, trials, answerOf, decision}
 
 -- one of the refusals holds
 abbrev pub turnedAway : Lent → Bool

@@ -23,8 +23,11 @@ use Rattle.reading.specs.declared.Ruled.the-variants.{Taken}
 use Rattle.reading.specs.declared.Terms.{Terms}
 use Rattle.requests.specs.Judged.{fine}
 use Rattle.requests.specs.Request.{headerFault, readIn, sessionOf}
-use Rattle.reply.specs.Pieces.{frontBytes, originBytes, topBytes, headerBytes}
-use Rattle.answering.specs.Answer.{proxies, restBytes}
+use Rattle.envelope.specs.Front.{frontBytes, originBytes}
+use Rattle.envelope.specs.Header.{headerBytes}
+use Rattle.reply.specs.Pieces.{topBytes}
+use Rattle.envelope.specs.End.{proxies}
+use Rattle.answering.specs.Answer.{restBytes}
 use Rattle.calling.specs.Call.{Answered}
 use Rattle.calling.specs.Lent.{Lent, tableOnly, dialectIn}
 use Rattle.calling.specs.Serve.{Served, decided, serve}

@@ -20,8 +20,9 @@ use Rattle.reading.specs.declared.Terms.{Terms}
 use Rattle.reading.specs.declared.Ruled.the-variants.{Taken, Skipped, Fault}
 use Rattle.requests.specs.Judged.{nothing}
 use Rattle.requests.specs.Request.{headerFault, firstOther}
-use Rattle.reply.specs.Pieces.{topBytes, headerBytes}
-use Rattle.answering.specs.Answer.{proxies}
+use Rattle.envelope.specs.Header.{headerBytes}
+use Rattle.reply.specs.Pieces.{topBytes}
+use Rattle.envelope.specs.End.{proxies}
 use Rattle.calling.specs.Lent.{Lent, dialectIn}
 use Rattle.calling.specs.Serve.{Served}
 use Rattle.calling.specs.Call.{Answered}

@@ -11,7 +11,7 @@ use Rattle.pen.specs.Bytes.{wordBytes, headBytes, padding, vendorHead, numberBy
 use Rattle.requests.specs.Request.{underCx}
 use Rattle.calling.specs.Call.{Answered}
 use Rattle.calling.specs.Lent.{Lent, lent, tableOnly}
-use Rattle.calling.specs.Trial.{anyHolds}
+use Rattle.refusals.specs.Trial.{anyHolds}
 use Rattle.calling.specs.Serve.{Served, checkOf}
 use Rattle.calling.proofs.Areas.{only-sound}
 use Rattle.worked_examples.proofs.Sample.{header, person, vector, room, digest, s, opened}

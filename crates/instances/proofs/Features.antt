@@ -16,7 +16,7 @@ use Rattle.requests.specs.Judged.{Judged, bad, fine, nothing}
 use Rattle.requests.specs.Request.{dialectOf, underCx, readIn}
 use Rattle.calling.specs.Lent.{Lent, lent, tableOnly}
 use Rattle.calling.specs.Serve.{answerOf, decided, resultOf, serveBy, serve}
-use Rattle.calling.specs.Trial.{anyHolds}
+use Rattle.refusals.specs.Trial.{anyHolds}
 use Rattle.calling.proofs.Areas.{serve-sound}
 use Rattle.ndushavire.specs.Reads.{callPlace}
 use Rattle.older_rules.specs.WithoutFeatures.{NoFeatures, beforeFeatures}

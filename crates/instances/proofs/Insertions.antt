@@ -8,7 +8,7 @@ use Rattle.blocks.specs.declared.Checked.the-variants.{Sound}
 use Rattle.table.specs.Area.{sizeIn, tableIn}
 use Rattle.calling.specs.Lent.{Lent, tableOnly}
 use Rattle.calling.specs.Serve.{Served, serve}
-use Rattle.calling.specs.Trial.{anyHolds}
+use Rattle.refusals.specs.Trial.{anyHolds}
 use Rattle.calling.proofs.Areas.{serve-sound}
 use Rattle.worked_examples.proofs.Computed.{knownTrials, come, held, roomy, no-vectors}
 use Rattle.worked_examples.proofs.Sample.{room, answer, s}

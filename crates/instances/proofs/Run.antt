@@ -16,8 +16,9 @@ use Rattle.reading.specs.declared.Outcome.the-variants.{Base}
 use Rattle.requests.specs.Request.{underCx}
 use Rattle.calling.specs.Call.{Answered}
 use Rattle.calling.specs.Lent.{Lent, lent, tableOnly}
-use Rattle.calling.specs.Trial.{anyHolds}
-use Rattle.calling.specs.Serve.{Served, smallBuffer, checkValue, checkOf, trials, decision, decided, resultOf, serveTable, serve}
+use Rattle.refusals.specs.Trial.{anyHolds}
+use Rattle.refusals.specs.Early.{smallBuffer, checkValue}
+use Rattle.calling.specs.Serve.{Served, checkOf, trials, decision, decided, resultOf, serveTable, serve}
 use Rattle.ndushavire.specs.Reads.{callPlace}
 use Rattle.vectors_sent.specs.Sent.{sentBy, Challenges, usedAt, remaining, itemsFrom, saidOf, answerWith}
 use Rattle.vectors_sent.specs.Row.{Turn, lending, leftBy, sentOver, Once}

@@ -12,8 +12,9 @@ use Rattle.taking.specs.declared.Taken.the-variants.{Took, Refused}
 use Rattle.requests.specs.Request.{underCx}
 use Rattle.calling.specs.Call.{Answered}
 use Rattle.calling.specs.Lent.{Lent, lent, holding}
-use Rattle.calling.specs.Serve.{Served, earlyTrials, serveTable, serve}
-use Rattle.calling.specs.Trial.{anyHolds}
+use Rattle.refusals.specs.Early.{earlyTrials}
+use Rattle.calling.specs.Serve.{Served, serveTable, serve}
+use Rattle.refusals.specs.Trial.{anyHolds}
 use Rattle.calling.proofs.Areas.{serve-sound}
 use Rattle.ndushavire.specs.Word.{word, takeWord}
 use Rattle.ndushavire.specs.Reads.{ReadsTake}

@@ -17,9 +17,7 @@ use Rattle.importing.specs.Said.{tableSaid, firstWrong}
 use Rattle.importing.specs.Import.{fitHeader, importPast, imported}
 use Rattle.importing.proofs.Given.{Exportable}
 use Rattle.importing.proofs.Importing.{import-gives, accepts-only}
-
-never : {A : Type 0} (number value bytes : ℕ) → Refused number value ≡ Written bytes → A
-never number value bytes e = let z : _≡_ {A = ℕ} 0 1 = cc in absurd (omega arith)
+use Rattle.list_laws.proofs.Outcomes.{never}
 
 -- what is written over an area of which it is said so
 pub record WroteSo (area w : List ℕ) (n : ℕ) (y : List ℕ) : Type 0 where

@@ -4,4 +4,6 @@ pub mod Exactly
 pub mod FirstLine
 pub mod Fresh
 pub mod Lines
+pub mod Outcomes
 pub mod Refusing
+pub mod Words

@@ -14,16 +14,10 @@ use Rattle.listing.specs.Export.{AfterList, came, refusing, writing, exportPast
 use Rattle.listing.specs.declared.Listed.the-variants.{Written, Refused}
 use Rattle.importing.specs.Said.{tableSaid, firstWrong}
 use Rattle.importing.specs.Import.{fitHeader, importPast, imported}
-use Rattle.importing.proofs.Accepts.{header-fits, said-size}
 use Rattle.importing.proofs.Importing.{import-gives, accepts-only}
 use Rattle.list_laws.specs.Refusals.{Fit, FirstUnlisted, ExportRefuses, unsound, older, unlisted, short, ImportRefuses, unfit, wrong, narrow}
 use Rattle.list_laws.proofs.Exactly.{AnExport}
-
-number-is : (a b v w : ℕ) → Refused a v ≡ Refused b w → a ≡ b
-number-is a b v w e = cc
-
-value-is : (a b v w : ℕ) → Refused a v ≡ Refused b w → v ≡ w
-value-is a b v w e = cc
+use Rattle.list_laws.proofs.Outcomes.{number-is, value-is, size-is}
 
 -- the first record with a name that cannot be listed, as the check finds it
 unlisted-says : (t : List ℕ) (count k : ℕ) → firstUnlisted t count ≡ Bad k → FirstUnlisted t count k
@@ -85,14 +79,11 @@ module _ (t : List ℕ) (file : ℕ) (area : List ℕ) where
       checked (Sound count) s g = second count s (eqb (editionOf (blockOf t 0)) 2) refl g
 
 module _ (list header : List ℕ) (file : ℕ) (area : List ℕ) where
-  size-is : fitHeader header ≡ true → length (tableSaid list header) ≡ 512 * (countOf header + 1)
-  size-is f = said-size list header (header-fits header f)
-
   pub import-refused : {number value : ℕ} → ImportRefuses list header file area number value → imported list header file area ≡ refusing area number value
   unfolding imported writing
   import-refused (unfit e) = rw e
   import-refused (wrong k f e) = rw (f, e)
-  import-refused (narrow count f e h) = rw (f, e, size-is f, lt-ltb (length area) (512 * (countOf header + 1)) h)
+  import-refused (narrow count f e h) = rw (f, e, size-is list header f, lt-ltb (length area) (512 * (countOf header + 1)) h)
 
   pub import-refuses : (number value : ℕ) → imported list header file area .said ≡ Refused number value → ImportRefuses list header file area number value
   unfolding imported writing
@@ -106,7 +97,7 @@ module _ (list header : List ℕ) (file : ℕ) (area : List ℕ) where
           → cond x (refusing area 15 0) (came (Written (length (tableSaid list header))) (over (tableSaid list header) area)) .said ≡ Refused number value
           → ImportRefuses list header file area number value
       ended count f w true h g =
-          is 15 0 (narrow count f w (rw (size-is f) at (ltb-true (length area) (length (tableSaid list header)) h))) g
+          is 15 0 (narrow count f w (rw (size-is list header f) at (ltb-true (length area) (length (tableSaid list header)) h))) g
       ended count f w false h g = let z : _≡_ {A = ℕ} 0 1 = cc in absurd (omega arith)
 
       past : fitHeader header ≡ true → (c : Checked) → firstWrong list header file ≡ c → importPast list header area c .said ≡ Refused number value

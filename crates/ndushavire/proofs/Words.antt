@@ -16,8 +16,13 @@ use Rattle.reporting.specs.Report.{reported}
 use Rattle.taking.specs.TakeOver.{AfterTake, takeOver}
 use Rattle.taking.specs.TakeOver as taking
 use Rattle.taking.specs.declared.Taken.{Taken}
-use Rattle.ndushavire.specs.Word.{word, checkWord, callWord, moveWord, takeWord}
+use Rattle.listing.specs.Export.{AfterList, exported}
+use Rattle.listing.specs.Export as listing
+use Rattle.listing.specs.declared.Listed.{Listed}
+use Rattle.importing.specs.Import.{imported}
+use Rattle.ndushavire.specs.Word.{word, checkWord, callWord, moveWord, takeWord, listWord}
 use Rattle.ndushavire.specs.Promise.{CheckPromise, CheckVectorsPromise, DecidePromise, ReportPromise, ForwardPromise, BackPromise, TakePromise}
+use Rattle.ndushavire.specs.Promise.{ExportPromise, ImportPromise}
 
 pub check-kept : (table profile : List ℕ) (c : Checked) (r : ℕ) → c ≡ checkArea table (length profile) → r ≡ checkWord 5 c → CheckPromise table profile r
 check-kept table profile c r e f = record { answer = f ∙ ap (checkWord 5) e }
@@ -62,3 +67,14 @@ back-promised table profile e f = record { word-is = f ∙ ap (λ (o : AfterMove
 pub take-promised : (area fresh profile : List ℕ) {t : Taken} {w : ℕ} {area' : List ℕ} → taking.came t area' ≡ takeOver area fresh (length profile)
     → w ≡ takeWord t → TakePromise area fresh profile w area'
 take-promised area fresh profile e f = record { word-is = f ∙ ap (λ (o : AfterTake). takeWord (o .taken)) e; area-is = ap (λ (o : AfterTake). o .area) e }
+
+-- The list.
+pub export-promised : (table profile list : List ℕ) {l : Listed} {w : ℕ} {list' : List ℕ} → listing.came l list' ≡ exported table (length profile) list
+    → w ≡ listWord l → ExportPromise table profile list w list'
+export-promised table profile list e f =
+    record { word-is = f ∙ ap (λ (o : AfterList). listWord (o .said)) e; list-is = ap (λ (o : AfterList). o .area) e }
+
+pub import-promised : (list header profile table : List ℕ) {l : Listed} {w : ℕ} {table' : List ℕ}
+    → listing.came l table' ≡ imported list header (length profile) table → w ≡ listWord l → ImportPromise list header profile table w table'
+import-promised list header profile table e f =
+    record { word-is = f ∙ ap (λ (o : AfterList). listWord (o .said)) e; table-is = ap (λ (o : AfterList). o .area) e }

@@ -10,8 +10,10 @@ use Rattle.calling.specs.Serve.{serve}
 use Rattle.moving.specs.Outcomes.{forward, back}
 use Rattle.reporting.specs.Report.{reported}
 use Rattle.taking.specs.TakeOver.{takeOver}
+use Rattle.listing.specs.Export.{exported}
+use Rattle.importing.specs.Import.{imported}
 use Rattle.ndushavire.specs.Version.{version}
-use Rattle.ndushavire.specs.Word.{word, checkWord, callWord, moveWord, takeWord}
+use Rattle.ndushavire.specs.Word.{word, checkWord, callWord, moveWord, takeWord, listWord}
 
 -- the check of the table at the front of its area: "the exact count or first bad block"; of the profile file its length alone counts
 pub record CheckPromise (table profile : List ℕ) (r : ℕ) : Type 0 where
@@ -49,6 +51,15 @@ pub record ReportPromise (x : Lent) (area : List ℕ) (r : ℕ) (table' vectors'
   pub vectors-is : vectors' ≡ reported x area .vectors
   pub buffer-is : buffer' ≡ reported x area .buffer
   pub area-is : area' ≡ reported x area .area
+
+-- a table as a list, and the table of a list: the word and the area at exit are those of `exported` and `imported`
+pub record ExportPromise (table profile list : List ℕ) (r : ℕ) (list' : List ℕ) : Type 0 where
+  pub word-is : r ≡ listWord (exported table (length profile) list .said)
+  pub list-is : list' ≡ exported table (length profile) list .area
+
+pub record ImportPromise (list header profile table : List ℕ) (r : ℕ) (table' : List ℕ) : Type 0 where
+  pub word-is : r ≡ listWord (imported list header (length profile) table .said)
+  pub table-is : table' ≡ imported list header (length profile) table .area
 
 -- the version of the library that is called
 pub record VersionPromise (r : ℕ) : Type 0 where

@@ -6,13 +6,16 @@ use lib.Dec.{eqb}
 use Rattle.blocks.specs.declared.Checked.{Checked}
 use Rattle.blocks.specs.declared.Checked.the-variants.{Sound, Bad}
 use Rattle.calling.specs.Call.{Call, Answered, Refused}
-use Rattle.calling.specs.Serve.{checkValue}
+use Rattle.refusals.specs.Early.{checkValue}
 use Rattle.moving.specs.declared.Move.{Move}
 use Rattle.moving.specs.declared.Move.the-variants as move
 use Rattle.moving.specs.declared.Move.the-variants.{Moved}
 use Rattle.taking.specs.declared.Taken.{Taken}
 use Rattle.taking.specs.declared.Taken.the-variants as take
 use Rattle.taking.specs.declared.Taken.the-variants.{Took}
+use Rattle.listing.specs.declared.Listed.{Listed}
+use Rattle.listing.specs.declared.Listed.the-variants as list
+use Rattle.listing.specs.declared.Listed.the-variants.{Written}
 use Rattle.ndushavire.specs.Word.{numberUnit, placeUnit}
 
 -- read back: bits 48 to 63, 32 to 47 and 0 to 31
@@ -60,6 +63,15 @@ abbrev pub takeValue : Taken → ℕ
 takeValue (Took count) = count
 takeValue (take.Refused number) = 0
 
+-- an export or an import: number 0 with the bytes written; a refusal's number with a block, a line or 0
+abbrev pub listNumber : Listed → ℕ
+listNumber (Written bytes) = 0
+listNumber (list.Refused number value) = number
+
+abbrev pub listValue : Listed → ℕ
+listValue (Written bytes) = bytes
+listValue (list.Refused number value) = value
+
 abbrev pub callBy : Bool → ℕ → ℕ → ℕ → Call
 callBy true number place value = Answered (record { length = value; place = place })
 callBy false number place value = Refused number value
@@ -88,7 +100,14 @@ takeBy false number value = take.Refused number
 abbrev pub takeIn : ℕ → Taken
 takeIn w = takeBy (eqb (numberIn w) 0) (numberIn w) (valueIn w)
 
--- so is a call read back, and so are the check's answer and what a move and a take-over come to
+abbrev pub listBy : Bool → ℕ → ℕ → Listed
+listBy true number value = list.Written value
+listBy false number value = list.Refused number value
+
+abbrev pub listIn : ℕ → Listed
+listIn w = listBy (eqb (numberIn w) 0) (numberIn w) (valueIn w)
+
+-- so is a call read back, and so are the check's answer and what a move, a take-over, an export and an import come to
 pub record Reads (c : Call) (w : ℕ) : Type 0 where
   pub number : numberIn w ≡ callNumber c
   pub place : placeIn w ≡ callPlace c
@@ -112,3 +131,9 @@ pub record ReadsTake (t : Taken) (w : ℕ) : Type 0 where
   pub place : placeIn w ≡ 0
   pub value : valueIn w ≡ takeValue t
   pub take : takeIn w ≡ t
+
+pub record ReadsList (l : Listed) (w : ℕ) : Type 0 where
+  pub number : numberIn w ≡ listNumber l
+  pub place : placeIn w ≡ 0
+  pub value : valueIn w ≡ listValue l
+  pub list : listIn w ≡ l

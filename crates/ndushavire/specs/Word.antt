@@ -8,6 +8,9 @@ use Rattle.moving.specs.declared.Move.the-variants.{Moved}
 use Rattle.taking.specs.declared.Taken.{Taken}
 use Rattle.taking.specs.declared.Taken.the-variants as take
 use Rattle.taking.specs.declared.Taken.the-variants.{Took}
+use Rattle.listing.specs.declared.Listed.{Listed}
+use Rattle.listing.specs.declared.Listed.the-variants as list
+use Rattle.listing.specs.declared.Listed.the-variants.{Written}
 use Rattle.blocks.specs.declared.Checked.{Checked}
 use Rattle.blocks.specs.declared.Checked.the-variants.{Sound, Bad}
 
@@ -37,3 +40,8 @@ moveWord (move.Refused number block) = word number 0 block
 abbrev pub takeWord : Taken → ℕ
 takeWord (Took count) = word 0 0 count
 takeWord (take.Refused number) = word number 0 0
+
+-- an export or an import: the bytes written; 5 and 13 with a block, 14 with a line, 15 with 0
+abbrev pub listWord : Listed → ℕ
+listWord (Written bytes) = word 0 0 bytes
+listWord (list.Refused number value) = word number 0 value

@@ -5,6 +5,7 @@ pub mod word;
 use blocks::Checked;
 use calling::Came;
 use diameter::codes;
+use listing::Listed;
 use moving::Move;
 use reading::Terms;
 use taking::Taken;
@@ -12,9 +13,9 @@ ghost use mathlib.Core.Path.{_≡_};
 ghost use Rattle.requests.specs.Request.{underCx};
 ghost use Rattle.calling.specs.Leaves.{callOf};
 ghost use Rattle.calling.specs.Lent.{lent};
-ghost use Rattle.ndushavire.specs.Word.{checkWord, callWord, moveWord, takeWord};
+ghost use Rattle.ndushavire.specs.Word.{checkWord, callWord, moveWord, takeWord, listWord};
 ghost use Rattle.ndushavire.specs.Promise.{CheckPromise, CheckVectorsPromise, DecidePromise, ReportPromise};
-ghost use Rattle.ndushavire.specs.Promise.{ForwardPromise, BackPromise, TakePromise, VersionPromise};
+ghost use Rattle.ndushavire.specs.Promise.{ForwardPromise, BackPromise, TakePromise, ExportPromise, ImportPromise, VersionPromise};
 
 // The word of a check's answer: a bad block has the refusal's number.
 fn check_word(number: u16, c: Checked) -> u64
@@ -173,8 +174,39 @@ pub extern "C" fn ndushavire_take(area: &mut [u8], fresh: &[u8], profile: &[u8])
     take_word(taking::take(area, fresh, profile.len()))
 }
 
-// Which library was linked, so that a daemon can tell it from the header that it was compiled with: 0.15.0, as NDUSHAVIRE_VERSION_NUMBER has it.
-const VERSION: u32 = 1500;
+// The word of an export and of an import.
+fn list_word(l: Listed) -> u64
+    ensures { λ r. ⌜ r ≡ listWord l ⌝ }
+{
+    match l {
+        Listed::Written(bytes) => word::of(0, 0, bytes),
+        Listed::Refused { number, value } => word::of(number, 0, value),
+    }
+}
+
+// "Export a sound edition 2 table as comma-separated lines"
+#[no_mangle]
+pub extern "C" fn ndushavire_export(table: &[u8], profile: &[u8], list: &mut [u8]) -> u64
+    ensures { λ r. ⌜ ExportPromise (now (table .entry)) (now (profile .entry)) (now (list .entry)) r (now (list .exit)) ⌝ }
+{
+    list_word(listing::export(table, profile.len(), list))
+}
+
+// "Import of an exported list, with the same header block and profile file, gives back the table's bytes."
+#[no_mangle]
+pub extern "C" fn ndushavire_import(
+    list: &[u8],
+    header: &[u8],
+    profile: &[u8],
+    table: &mut [u8],
+) -> u64
+    ensures { λ r. ⌜ ImportPromise (now (list .entry)) (now (header .entry)) (now (profile .entry)) (now (table .entry)) r (now (table .exit)) ⌝ }
+{
+    list_word(billing::import(list, header, profile.len(), table))
+}
+
+// Which library was linked, so that a daemon can tell it from the header that it was compiled with: 0.16.0, as NDUSHAVIRE_VERSION_NUMBER has it.
+const VERSION: u32 = 1600;
 
 #[no_mangle]
 pub extern "C" fn ndushavire_version() -> u32

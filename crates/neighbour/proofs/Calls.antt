@@ -7,7 +7,8 @@ use Rattle.table.specs.SoundTable.{SoundTable}
 use Rattle.diameter.specs.Message.{commandOf}
 use Rattle.calling.specs.Call.{Answer, Answered}
 use Rattle.calling.specs.Lent.{Lent, tableOnly, dialectIn}
-use Rattle.calling.specs.Serve.{Served, checkOf, checkValue, answerOf, decision, refused, answeredBy, serveTable, serve}
+use Rattle.refusals.specs.Early.{checkValue}
+use Rattle.calling.specs.Serve.{Served, checkOf, answerOf, decision, refused, answeredBy, serveTable, serve}
 use Rattle.vectors.specs.VectorFile.{checkVectors}
 use Rattle.calling.proofs.Kept.{serve-by, serve-either}
 use Rattle.demands.specs.Call.{turnedAway}

@@ -8,7 +8,8 @@ use Rattle.table.specs.Area.{tableIn, checkArea}
 use Rattle.diameter.specs.Message.{commandOf}
 use Rattle.calling.specs.Call.{Answer, Answered}
 use Rattle.calling.specs.Lent.{Lent}
-use Rattle.calling.specs.Serve.{checkValue, serve}
+use Rattle.refusals.specs.Early.{checkValue}
+use Rattle.calling.specs.Serve.{serve}
 use Rattle.neighbour.specs.Seen.{headerApart, SameApart, recordsOf, SameHaving, SameSeen, bytesOf, SameAnswer}
 use Rattle.neighbour.specs.Mine.{AboutMine, OtherLines, Turn, afterTurns, AboutOthers}
 use Rattle.neighbour.proofs.Records.{records-roomy}

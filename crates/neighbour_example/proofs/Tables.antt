@@ -12,7 +12,7 @@ use Rattle.vectors.specs.VectorFile.{checkVectors}
 use Rattle.pen.specs.Bytes.{avpBytes, vendorBytes, vendorNumber}
 use Rattle.requests.specs.Request.{underCx}
 use Rattle.calling.specs.Lent.{Lent, lent}
-use Rattle.calling.specs.Serve.{smallBuffer}
+use Rattle.refusals.specs.Early.{smallBuffer}
 use Rattle.neighbour.specs.Seen.{headerApart, recordApart, SameApart, SameLine, records, having, SameHaving}
 use Rattle.worked_examples.proofs.Sample.{checked, header, subscriber, request, common, room, vector, s, z, opened}
 

@@ -17,10 +17,11 @@ use Rattle.requests.specs.Judged.{Judged, nothing, onRule, judge}
 use Rattle.requests.proofs.Featured.{none-beyond, none-called}
 use Rattle.requests.specs.Request.{dialectOf, headerFault, readWalk, readIn}
 use Rattle.choices.specs.declared.Given.{Given}
-use Rattle.reply.specs.Pieces.{originBytes, listBytes, topBytes}
+use Rattle.envelope.specs.Front.{originBytes}
+use Rattle.reply.specs.Pieces.{listBytes, topBytes}
 use Rattle.answering.specs.Answer.{bodyBytes, answerBytes}
 use Rattle.deciding.specs.Rules.{inForce}
-use Rattle.deciding.proofs.Tests.{neither}
+use Rattle.refusals.proofs.Passing.{neither}
 use Rattle.calling.specs.Lent.{Lent, dialectIn}
 use Rattle.calling.specs.Serve.{serveTableBy, serveTable}
 use Rattle.older_rules.specs.WithoutFeatures.{NoFeatures, ruleBefore, judgeBefore, readBefore, bodyBefore, answerBefore, beforeFeatures}

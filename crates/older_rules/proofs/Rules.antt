@@ -9,7 +9,7 @@ use Rattle.choices.specs.declared.plan.Deed.{Deed}
 use Rattle.deciding.specs.Rules.{Rules}
 use Rattle.deciding.specs.Decide.{performedBy, judgedBy, decideBy}
 use Rattle.calling.specs.Lent.{Lent, dialectIn}
-use Rattle.calling.specs.Trial.{tried}
+use Rattle.refusals.specs.Trial.{tried}
 use Rattle.calling.specs.Serve.{answeredBy, decisionBy, serveFound, serveTableBy}
 
 module _ (r s : Rules) (x : Lent) where

@@ -22,7 +22,8 @@ use Rattle.reading.specs.declared.Use.the-variants.{Unknown}
 use Rattle.requests.specs.Judged.{Judged, bad, fine, nothing, onRule}
 use Rattle.requests.specs.Request.{headerFault, firstOther, complete, sessionOf}
 use Rattle.choices.specs.declared.Given.{Given}
-use Rattle.reply.specs.Pieces.{frontBytes, originBytes, headerBytes}
+use Rattle.envelope.specs.Front.{frontBytes, originBytes}
+use Rattle.envelope.specs.Header.{headerBytes}
 use Rattle.answering.specs.Answer.{restBytes}
 use Rattle.deciding.specs.Deeds.{carriedOut}
 use Rattle.deciding.specs.Plans.{planRead}

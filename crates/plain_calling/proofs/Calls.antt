@@ -17,10 +17,11 @@ use Rattle.refusals.proofs.Passing.{lets, none, passes}
 use Rattle.deciding.specs.Answers.{Tells}
 use Rattle.deciding.specs.Decide.{decide}
 use Rattle.deciding.specs.declared.Told.{Told}
-use Rattle.calling.specs.Leaves.{Leaves, early, serveChecked}
+use Rattle.refusals.specs.Early.{early}
+use Rattle.calling.specs.Leaves.{Leaves, serveChecked}
 use Rattle.calling.specs.Lent.{Lent, lent, tableOnly}
 use Rattle.calling.specs.Serve.{Served, serveFound, serveTableBy, serveTable, serve}
-use Rattle.calling.specs.Trial.{tried}
+use Rattle.refusals.specs.Trial.{tried}
 use Rattle.calling.specs.declared.Came.the-variants as told
 use Rattle.calling.proofs.Calls as calls
 use Rattle.plain_reading.specs.Listed.{placesOf}

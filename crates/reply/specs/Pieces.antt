@@ -13,9 +13,7 @@ use Rattle.requests.specs.Request.{sessionOf}
 use Rattle.reading.specs.declared.Outcome.{Outcome}
 use Rattle.reading.specs.declared.Terms.{Terms}
 use Rattle.choices.specs.declared.Given.{Given}
-unfoldable pub use Rattle.envelope.specs.Front.{resultBytes, frontBytes, originBytes}
-unfoldable pub use Rattle.envelope.specs.Header.{flagsOf, headerBytes}
-pub use Rattle.envelope.specs.Header.{startBytes}
+use Rattle.envelope.specs.Front.{frontBytes, originBytes}
 use Rattle.items.specs.Items.{sentBytes}
 use Rattle.parts.specs.Profile.{profileAt}
 

@@ -10,7 +10,8 @@ ghost use Rattle.octets.specs.Run.{Wrote};
 ghost use Rattle.blocks.specs.Blocks.{blockOf};
 ghost use Rattle.requests.specs.Features.{listCalled};
 ghost use Rattle.table.specs.SoundTable.{SoundTable};
-ghost use Rattle.reply.specs.Pieces.{originBytes, listBytes, topBytes};
+ghost use Rattle.envelope.specs.Front.{originBytes};
+ghost use Rattle.reply.specs.Pieces.{listBytes, topBytes};
 
 // Supported-Features, where the request calls for it.
 fn put_list(out: &mut [u8], req: &[u8], terms: Terms, listed: bool) -> usize

@@ -15,7 +15,8 @@ use Rattle.counting.specs.declared.Event.{Event}
 use Rattle.requests.specs.Request.{underCx}
 use Rattle.calling.specs.Call.{Answered, Refused}
 use Rattle.calling.specs.Lent.{Lent, lent}
-use Rattle.calling.specs.Serve.{Served, smallBuffer, checkOf, checkValue, decision, resultOf, serveTable}
+use Rattle.refusals.specs.Early.{smallBuffer, checkValue}
+use Rattle.calling.specs.Serve.{Served, checkOf, decision, resultOf, serveTable}
 use Rattle.calling.proofs.Areas.{serve-sound}
 use Rattle.reporting.specs.Row.{eventBy, eventOf}
 use Rattle.report_numbers.specs.File.{OneRequest, endToEnd}

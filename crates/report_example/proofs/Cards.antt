@@ -12,7 +12,8 @@ use Rattle.reading.specs.declared.Outcome.the-variants.{Base}
 use Rattle.counting.specs.declared.Event.{Event}
 use Rattle.calling.specs.Lent.{Lent, lent, tableOnly}
 use Rattle.calling.proofs.Areas.{only-sound}
-use Rattle.calling.specs.Serve.{smallBuffer, serveTable}
+use Rattle.refusals.specs.Early.{smallBuffer}
+use Rattle.calling.specs.Serve.{serveTable}
 use Rattle.reporting.specs.Row.{eventOf, next, row, left}
 use Rattle.reporting.specs.Report.{Reported, requestsOf, ran, reported}
 use Rattle.reporting.proofs.Areas.{reported-sound}

@@ -16,7 +16,8 @@ use Rattle.counting.specs.Words.{longBytes}
 use Rattle.counting.specs.declared.Event.{Event}
 use Rattle.requests.specs.Request.{underCx}
 use Rattle.calling.specs.Lent.{Lent, lent, asking, holding, tableOnly}
-use Rattle.calling.specs.Serve.{serveTable, serve, checkValue, decision, resultOf}
+use Rattle.refusals.specs.Early.{checkValue}
+use Rattle.calling.specs.Serve.{serveTable, serve, decision, resultOf}
 use Rattle.calling.proofs.Areas.{only-sound}
 use Rattle.ndushavire.specs.Word.{word, callWord}
 use Rattle.ndushavire.specs.Reads.{placeIn, valueIn}

@@ -9,8 +9,9 @@ use Rattle.counting.proofs.Numbers.{largest-append}
 use Rattle.rewrite.proofs.Counts.{altered-none, altered-most}
 use Rattle.calling.specs.Call.{Call, Answered, Refused}
 use Rattle.calling.specs.Lent.{Lent, asking, dialectIn}
-use Rattle.calling.specs.Serve.{Served, checkOf, checkValue, refused, answeredBy, serveTable}
-use Rattle.calling.proofs.Calls.{size-least, size-most, length-even}
+use Rattle.refusals.specs.Early.{checkValue}
+use Rattle.calling.specs.Serve.{Served, checkOf, refused, answeredBy, serveTable}
+use Rattle.refusals.proofs.Passing.{size-least, size-most, length-even}
 use Rattle.calling.proofs.Kept.{serve-by}
 use Rattle.demands.proofs.Firm.{check-most}
 use Rattle.reporting.specs.Row.{recordsAltered, eventBy, eventOf, next, row, left}

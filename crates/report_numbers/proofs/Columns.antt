@@ -9,7 +9,8 @@ use Rattle.counting.specs.Counted.{howMany}
 use Rattle.counting.proofs.Numbers.{word-other}
 use Rattle.calling.specs.Call.{Call, Answered, Refused}
 use Rattle.calling.specs.Lent.{Lent, asking, dialectIn}
-use Rattle.calling.specs.Serve.{checkOf, checkValue, resultOf, serveTable}
+use Rattle.refusals.specs.Early.{checkValue}
+use Rattle.calling.specs.Serve.{checkOf, resultOf, serveTable}
 use Rattle.demands.proofs.Unable.{unable-never}
 use Rattle.reporting.specs.Row.{eventBy, eventOf, next, row}
 use Rattle.reporting.specs.Report.{requestsOf, reportedTable}

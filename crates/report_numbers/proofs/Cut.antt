@@ -6,7 +6,7 @@ use Rattle.octets.specs.Standard.{le-ltb, ltb-true, ltb-false}
 use Rattle.octets.specs.Number.{be24At}
 use Rattle.octets.proofs.Numbers.{be24-alike, be24-take}
 use Rattle.diameter.specs.Put.{All}
-use Rattle.deciding.proofs.Tests.{neither}
+use Rattle.refusals.proofs.Passing.{neither}
 use Rattle.reporting.specs.Pieces.{broken, piecesIn, pieces, totalOf, stopOf}
 use Rattle.reporting.proofs.Cutting.{pieces-none, pieces-first}
 use Rattle.octets.proofs.Parts.{nothing}

@@ -7,12 +7,13 @@ use Rattle.blocks.specs.declared.Checked.the-variants.{Sound, Bad}
 use Rattle.vectors.specs.VectorFile.{checkVectors}
 use Rattle.rewrite.specs.Keeps.{alterable}
 use Rattle.diameter.specs.Message.{commandOf}
-use Rattle.deciding.proofs.Tests.{neither}
+use Rattle.refusals.proofs.Passing.{neither}
 use Rattle.counting.specs.Counted.{howMany}
 use Rattle.counting.specs.declared.Event.{Event}
 use Rattle.calling.specs.Lent.{Lent, asking}
-use Rattle.calling.specs.Trial.{anyHolds}
-use Rattle.calling.specs.Serve.{unknownPeer, smallBuffer, checkOf, checkValue, answeredBy, resultOf, serveTable}
+use Rattle.refusals.specs.Trial.{anyHolds}
+use Rattle.refusals.specs.Early.{unknownPeer, smallBuffer, checkValue}
+use Rattle.calling.specs.Serve.{checkOf, answeredBy, resultOf, serveTable}
 use Rattle.calling.proofs.Kept.{table-checked, vectors-checked, taken}
 use Rattle.demands.specs.Call.{turnedAway}
 use Rattle.demands.specs.Frame.{succeeds}

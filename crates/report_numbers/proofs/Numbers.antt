@@ -22,7 +22,8 @@ use Rattle.diameter.specs.Message.{bodyOf}
 use Rattle.reading.specs.Groups.{rfc3588, rfc6733}
 use Rattle.demands.specs.Peers.{byPeer, OneVendor}
 use Rattle.calling.specs.Lent.{Lent, asking, holding, tableOnly}
-use Rattle.calling.specs.Serve.{unknownPeer, serve, resultOf}
+use Rattle.refusals.specs.Early.{unknownPeer}
+use Rattle.calling.specs.Serve.{serve, resultOf}
 use Rattle.calling.proofs.Areas.{check-in}
 use Rattle.ndushavire.specs.Reads.{numberIn, placeIn, valueIn}
 use Rattle.ndushavire.specs.Promise.{DecidePromise, ReportPromise}

@@ -7,7 +7,8 @@ use Rattle.rewrite.specs.Change.{alteredUpTo}
 use Rattle.counting.specs.declared.Event.{Event}
 use Rattle.calling.specs.Call.{Call, Answered, Refused}
 use Rattle.calling.specs.Lent.{Lent, asking, tableOnly}
-use Rattle.calling.specs.Serve.{Served, checkOf, checkValue, serveTable}
+use Rattle.refusals.specs.Early.{checkValue}
+use Rattle.calling.specs.Serve.{Served, checkOf, serveTable}
 use Rattle.demands.specs.Peers.{byPeer, OneVendor}
 use Rattle.demands.proofs.PeerCalls.{one-table, one-result}
 use Rattle.reporting.specs.Row.{recordsAltered, eventBy, eventOf, next, row, left}

@@ -2,7 +2,7 @@
 use Rattle.octets.specs.Standard.{ℕ, zero, suc, _≤_, _<_, List, [], _∷_, Bool, true, false, cond, _||_, _≡_, refl, ap, _∙_, arith, length, take, drop}
 use Rattle.octets.specs.Standard.{length-drop, ltb, lt-ltb, le-ltb, ltb-false}
 use Rattle.octets.specs.Number.{be24At}
-use Rattle.deciding.proofs.Tests.{neither}
+use Rattle.refusals.proofs.Passing.{neither}
 use Rattle.reporting.specs.Pieces.{broken, piecesIn, pieces}
 use Rattle.reporting.specs.Run.{firstLength}
 

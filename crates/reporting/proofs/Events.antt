@@ -7,7 +7,8 @@ use Rattle.counting.specs.Counting.{Fits, counted}
 use Rattle.counting.specs.declared.Event.{Event}
 use Rattle.deciding.proofs.Comes.{decide-carries}
 use Rattle.calling.specs.Lent.{Lent, lent, dialectIn}
-use Rattle.calling.specs.Serve.{Served, checkOf, checkValue, refused, answeredBy, serveTable}
+use Rattle.refusals.specs.Early.{checkValue}
+use Rattle.calling.specs.Serve.{Served, checkOf, refused, answeredBy, serveTable}
 use Rattle.calling.specs.Leaves.{Leaves}
 use Rattle.calling.specs.declared.Came.{Came}
 use Rattle.calling.proofs.Kept.{serve-by}

@@ -7,7 +7,8 @@ use Rattle.counting.specs.declared.Event.{Event}
 use Rattle.counting.specs.declared.Event.the-variants as event
 use Rattle.calling.specs.Call.{Call, Answered, Refused}
 use Rattle.calling.specs.Lent.{Lent, lent, asking, tableOnly}
-use Rattle.calling.specs.Serve.{checkOf, checkValue, resultOf, serveTable, serve}
+use Rattle.refusals.specs.Early.{checkValue}
+use Rattle.calling.specs.Serve.{checkOf, resultOf, serveTable, serve}
 
 -- "records altered, once per request": those whose bytes are others in the table that the call leaves
 abbrev pub recordsAltered : Lent → ℕ

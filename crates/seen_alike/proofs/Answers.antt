@@ -15,7 +15,8 @@ use Rattle.choices.specs.declared.plan.Plan.{Plan}
 use Rattle.parts.specs.Profile.{profileAt}
 use Rattle.reading.specs.declared.Dialect.{Dialect}
 use Rattle.reading.specs.declared.Terms.{Terms}
-use Rattle.reply.specs.Pieces.{originBytes, topBytes, identityBytes, nameBytes, dataBytes, givenBytes}
+use Rattle.envelope.specs.Front.{originBytes}
+use Rattle.reply.specs.Pieces.{topBytes, identityBytes, nameBytes, dataBytes, givenBytes}
 use Rattle.answering.specs.Answer.{restBytes, bodyBytes, answerBytes}
 use Rattle.deciding.specs.Decide.{performedBy, decide}
 use Rattle.deciding.proofs.Cases.{Comes, tells, settles, challenges}

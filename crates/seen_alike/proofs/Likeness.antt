@@ -17,8 +17,9 @@ use Rattle.answering.specs.Answer.{answerBytes}
 use Rattle.deciding.specs.Plans.{planRead}
 use Rattle.deciding.specs.Decide.{decide}
 use Rattle.calling.specs.Lent.{Lent, holding, dialectIn}
-use Rattle.calling.specs.Trial.{Trial, tried}
-use Rattle.calling.specs.Serve.{Served, SameCall, checkOf, checkValue, refused, answered, answeredBy, decision, resultOf, serveFound, serveTableBy, serveTable}
+use Rattle.refusals.specs.Trial.{Trial, tried}
+use Rattle.refusals.specs.Early.{checkValue}
+use Rattle.calling.specs.Serve.{Served, SameCall, checkOf, refused, answered, answeredBy, decision, resultOf, serveFound, serveTableBy, serveTable}
 use Rattle.seen_alike.specs.Alike.{AlikeTables}
 use Rattle.seen_alike.proofs.Together.{tables-sight, asks-any, plan-same, given-same, vectors-same}
 use Rattle.seen_alike.proofs.Plans.{place-same}

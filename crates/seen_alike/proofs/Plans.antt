@@ -9,11 +9,10 @@ use Rattle.reading.specs.declared.Dialect.{Dialect}
 use Rattle.requests.specs.Features.{beyondSet}
 use Rattle.requests.specs.Judged.{Judged, bad, fine}
 use Rattle.requests.specs.Request.{readIn, given, dataSeen, valueSeen, schemeOf, identities}
-use Rattle.requests.proofs.Kept.{read-needed, read-spoken}
+use Rattle.requests.proofs.Kept.{read-needed, read-spoken, read-command}
 use Rattle.deciding.specs.Plans.{assignmentOf, uarPlan, sarPlan, lirPlan, marPlan, planRead}
 use Rattle.deciding.specs.Rules.{inForce}
 use Rattle.deciding.specs.Decide.{Decision, featureUnsupported, performedBy, judgedBy, decideBy, decide}
-use Rattle.deciding.proofs.Read.{read-command}
 use Rattle.deciding.proofs.Tests.{each}
 use Rattle.seen_alike.specs.Shown.{SameSight}
 use Rattle.seen_alike.proofs.Decisions.{GivenAlike, PlanAlike, fault-alike, only-alike, authorize-alike, locate-alike, authenticate-alike}

@@ -8,7 +8,8 @@ use Rattle.reading.specs.Rules.{Seen}
 use Rattle.reading.specs.declared.Outcome.{Outcome}
 use Rattle.requests.specs.Judged.{Judged, bad, fine}
 use Rattle.calling.specs.Lent.{Lent, holding, tableOnly}
-use Rattle.calling.specs.Serve.{checkOf, checkValue, decision, resultOf}
+use Rattle.refusals.specs.Early.{checkValue}
+use Rattle.calling.specs.Serve.{checkOf, decision, resultOf}
 
 -- two bytes behind the table
 unfoldable pub piece : List ℕ

@@ -22,8 +22,9 @@ use Rattle.questions.specs.Authorization.{askedAt}
 use Rattle.questions.specs.Carried.{carried}
 use Rattle.calling.specs.Call.{Refused}
 use Rattle.calling.specs.Lent.{Lent, lent, tableOnly}
-use Rattle.calling.specs.Serve.{Served, wrongLength, earlyTrials, decided, resultOf, serveTable, serve}
-use Rattle.calling.specs.Trial.{anyHolds}
+use Rattle.refusals.specs.Early.{earlyTrials, wrongLength}
+use Rattle.calling.specs.Serve.{Served, decided, resultOf, serveTable, serve}
+use Rattle.refusals.specs.Trial.{anyHolds}
 use Rattle.calling.proofs.Areas.{served-in}
 use Rattle.ndushavire.specs.Word.{checkWord}
 use Rattle.ndushavire.specs.Reads.{ReadsCheck}

@@ -4,8 +4,9 @@ use Rattle.vectors.specs.Chosen.{unusedOf, sentOf}
 use Rattle.vectors.specs.Marked.{spent}
 use Rattle.vectors.specs.VectorFile.{SoundVectors}
 use Rattle.calling.specs.Lent.{Lent, dialectIn}
-use Rattle.calling.specs.Trial.{anyHolds}
-use Rattle.calling.specs.Serve.{checkOf, trials, refused, answeredBy, serveTable, checkValue, decided}
+use Rattle.refusals.specs.Trial.{anyHolds}
+use Rattle.refusals.specs.Early.{checkValue}
+use Rattle.calling.specs.Serve.{checkOf, trials, refused, answeredBy, serveTable, decided}
 use Rattle.calling.proofs.Kept.{taken, serve-either, answered-is}
 use Rattle.vectors_sent.specs.Sent.{sentBy, Challenges, userOf, askedBy}
 use Rattle.vectors_sent.proofs.Cases.{Cases, other, success, decide-cases}

@@ -18,8 +18,9 @@ use Rattle.deciding.proofs.Deeds.{decide-sendable}
 use Rattle.deciding.proofs.Read.{fails-most}
 use Rattle.calling.specs.Call.{Answered}
 use Rattle.calling.specs.Lent.{Lent, dialectIn}
-use Rattle.calling.specs.Trial.{anyHolds}
-use Rattle.calling.specs.Serve.{checkOf, trials, answerOf, answeredBy, serveTable, checkValue, decided}
+use Rattle.refusals.specs.Trial.{anyHolds}
+use Rattle.refusals.specs.Early.{checkValue}
+use Rattle.calling.specs.Serve.{checkOf, trials, answerOf, answeredBy, serveTable, decided}
 use Rattle.vectors_sent.specs.Sent.{sentBy, itemsFrom, saidOf, answerWith}
 use Rattle.calling.proofs.Kept.{answered-is}
 use Rattle.vectors_sent.proofs.Calls.{answered-sound}

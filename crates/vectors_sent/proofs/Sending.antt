@@ -14,8 +14,9 @@ use Rattle.reading.specs.declared.Outcome.the-variants.{Base}
 use Rattle.diameter.specs.Message.{commandOf}
 use Rattle.calling.specs.Call.{Answered}
 use Rattle.calling.specs.Lent.{Lent, tableOnly, dialectIn}
-use Rattle.calling.specs.Trial.{anyHolds}
-use Rattle.calling.specs.Serve.{checkOf, trials, serve, checkValue, decided, resultOf}
+use Rattle.refusals.specs.Trial.{anyHolds}
+use Rattle.refusals.specs.Early.{checkValue}
+use Rattle.calling.specs.Serve.{checkOf, trials, serve, decided, resultOf}
 use Rattle.ndushavire.specs.Reads.{callPlace}
 use Rattle.ndushavire.specs.Promise.{DecidePromise}
 use Rattle.vectors_sent.specs.Sent.{sentBy, Challenges, userOf, askedBy, usedAt, remaining, itemsFrom, saidOf, answerWith}

@@ -16,10 +16,11 @@ use Rattle.requests.specs.Request.{readIn, dataSeen, valueSeen}
 use Rattle.pen.specs.Bytes.{vendorNumber, ifThere}
 use Rattle.items.specs.Items.{itemBytes}
 use Rattle.choices.specs.declared.Given.{Given}
-use Rattle.reply.specs.Pieces.{topBytes, nameBytes, dataBytes, headerBytes}
-use Rattle.answering.specs.Answer.{endBytes}
+use Rattle.envelope.specs.Header.{headerBytes}
+use Rattle.reply.specs.Pieces.{topBytes, nameBytes, dataBytes}
+use Rattle.envelope.specs.End.{endBytes}
 use Rattle.calling.specs.Lent.{Lent, dialectIn}
-use Rattle.calling.specs.Trial.{anyHolds}
+use Rattle.refusals.specs.Trial.{anyHolds}
 use Rattle.calling.specs.Serve.{trials, decided, resultOf}
 
 -- the numbers of the blocks that a call sends: of its decision's, and none where it is refused

@@ -5,8 +5,9 @@ use Rattle.blocks.specs.declared.Checked.the-variants.{Sound}
 use Rattle.table.specs.Check.{checkTable}
 use Rattle.vectors.specs.VectorFile.{checkVectors}
 use Rattle.calling.specs.Lent.{Lent}
-use Rattle.calling.specs.Trial.{Trial, tried, anyHolds}
-use Rattle.calling.specs.Serve.{Served, unknownPeer, smallBuffer, earlyTrials, fileTrials, checkValue, checkOf, trials, refused, answered, decision, serveFound}
+use Rattle.refusals.specs.Trial.{Trial, tried, anyHolds}
+use Rattle.refusals.specs.Early.{unknownPeer, smallBuffer, earlyTrials, checkValue}
+use Rattle.calling.specs.Serve.{Served, fileTrials, checkOf, trials, refused, answered, decision, serveFound}
 use Rattle.calling.specs.Serve.{serveTableBy, serveTable}
 use Rattle.worked_examples.proofs.Sample.{room, one, s, opened}
 

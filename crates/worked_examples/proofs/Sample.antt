@@ -57,11 +57,14 @@ use Rattle.deciding.specs.Plans.{assignmentOf, uarPlan, sarPlan, lirPlan, marPl
 use Rattle.deciding.specs.Decide.{performedBy, judgedBy, decideBy}
 use Rattle.reading.specs.Verdicts.{numberOf}
 use Rattle.failed.specs.Failing.{headPart, alone, failedOf, sample, exampleOf, failedBy}
-use Rattle.reply.specs.Pieces.{resultBytes, frontBytes, originBytes, listBytes, topBytes, identityBytes, nameBytes, dataBytes, givenBytes, flagsOf}
-use Rattle.reply.specs.Pieces.{headerBytes}
-use Rattle.answering.specs.Answer.{proxy, proxies, endBytes, restBytes, bodyBytes, answerBytes}
-use Rattle.calling.specs.Trial.{tried}
-use Rattle.calling.specs.Serve.{wrongLength, refused, answeredBy, serveFound, serveTableBy}
+use Rattle.envelope.specs.Front.{resultBytes, frontBytes, originBytes}
+use Rattle.envelope.specs.Header.{flagsOf, headerBytes}
+use Rattle.reply.specs.Pieces.{listBytes, topBytes, identityBytes, nameBytes, dataBytes, givenBytes}
+use Rattle.envelope.specs.End.{proxy, proxies, endBytes}
+use Rattle.answering.specs.Answer.{restBytes, bodyBytes, answerBytes}
+use Rattle.refusals.specs.Trial.{tried}
+use Rattle.refusals.specs.Early.{wrongLength}
+use Rattle.calling.specs.Serve.{refused, answeredBy, serveFound, serveTableBy}
 
 -- `hss.isle` and `isle`
 unfoldable pub host : List ℕ

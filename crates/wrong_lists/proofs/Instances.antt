@@ -9,13 +9,17 @@ use Rattle.blocks.specs.Sealed.{sealed}
 use Rattle.blocks.specs.declared.Checked.the-variants.{Sound, Bad}
 use Rattle.table.specs.Check.{checkTable}
 use Rattle.listing.specs.ListOf.{listableAt}
-use Rattle.listing.specs.Export.{came, refusing, writing, exported}
-use Rattle.listing.specs.declared.Listed.the-variants.{Written}
+use Rattle.listing.specs.Export.{AfterList, came, refusing, writing, exported}
+use Rattle.listing.specs.declared.Listed.the-variants.{Written, Refused}
 use Rattle.importing.specs.Import.{fitHeader, imported}
 use Rattle.importing.proofs.Importing.{import-gives}
+use Rattle.ndushavire.specs.Word.{word, listWord}
+use Rattle.ndushavire.specs.Reads.{ReadsList}
+use Rattle.ndushavire.specs.Promise.{ExportPromise, ImportPromise}
 use Rattle.list_laws.specs.Refusals.{unlisted, unsound, unfit, narrow}
 use Rattle.list_laws.proofs.Exactly.{gives-back, gives-list}
 use Rattle.list_laws.proofs.Refusing.{export-refused, import-refused, fourteen-some}
+use Rattle.list_laws.proofs.Words.{export-said, import-said}
 use Rattle.list_example.proofs.Sample.{header, table, list, opened}
 use Rattle.list_example.proofs.Worked.{listed, whole}
 use Rattle.wrong_lists.proofs.Cases.{leading, fit, exportable, table-bytes, header-bytes, leading-not}
@@ -94,3 +98,25 @@ fifteen = import-refused list (header 2 2) 7 [] (narrow 2 fit whole (omega (arit
 pub fourteen : (area : List ℕ) → (k : ℕ) × (imported leading (header 2 2) 7 area ≡ refusing area 14 (k + 1))
 fourteen area =
     fourteen-some leading (header 2 2) 7 area (are-bytes (header 2 2) header-bytes) fit (λ x. leading-not (export-accepted leading (header 2 2) 7 x))
+
+-- The words of these calls read back, beside a profile file of 7 bytes.
+abbrev profile : List ℕ
+profile = replicate 7 0
+
+pub word-exported : ReadsList (Written 261) 261
+word-exported =
+    let p : ExportPromise table profile list 261 list =
+    record { word-is = sym (ap (λ (o : AfterList). listWord (o .said)) exported-so); list-is = sym (ap (λ (o : AfterList). o .area) exported-so) } in
+    rw (ap (λ (o : AfterList). o .said) exported-so) at (export-said table profile list p)
+
+pub word-imported : ReadsList (Written 1536) 1536
+word-imported =
+    let p : ImportPromise list (header 2 2) profile table 1536 table =
+    record { word-is = sym (ap (λ (o : AfterList). listWord (o .said)) imported-so); table-is = sym (ap (λ (o : AfterList). o .area) imported-so) } in
+    rw (ap (λ (o : AfterList). o .said) imported-so) at (import-said list (header 2 2) profile table p)
+
+pub word-unlisted : ReadsList (Refused 13 1) (word 13 0 1)
+word-unlisted =
+    let p : ExportPromise tabbed profile [] (word 13 0 1) [] =
+    record { word-is = sym (ap (λ (o : AfterList). listWord (o .said)) (thirteen [])); list-is = sym (ap (λ (o : AfterList). o .area) (thirteen [])) } in
+    rw (ap (λ (o : AfterList). o .said) (thirteen [])) at (export-said tabbed profile [] p)

@@ -16,7 +16,8 @@ use Rattle.listing.specs.declared.Listed.the-variants.{Written, Refused}
 use Rattle.importing.specs.Said.{placeOf, tableSaid, holdsAt, isTitled, overRecords, firstWrong}
 use Rattle.importing.specs.Import.{fitHeader, importPast, imported}
 use Rattle.importing.proofs.Importing.{import-gives}
-use Rattle.billing.specs.Promise.{listWord, ExportPromise, ImportPromise}
+use Rattle.ndushavire.specs.Word.{listWord}
+use Rattle.ndushavire.specs.Promise.{ExportPromise, ImportPromise}
 use Rattle.list_example.proofs.Sample.{header, table, list, opened}
 use Rattle.list_example.proofs.Worked.{sound, listed}
 use Rattle.wrong_lists.proofs.Cases.{leading, unclosed, longer, swapped, highest, leading-wrong, unclosed-wrong, longer-wrong, swapped-wrong}

@@ -1,7 +1,7 @@
 use Rattle.octets.specs.Standard.{needs}
 use Rattle.billing.proofs.Ways.{write-short, write-holds}
-use Rattle.billing.proofs.import.write.Statement.{statement}
-use Rattle.billing.proofs.import.write.Tie as tie
+use Rattle.billing.proofs.write.Statement.{statement}
+use Rattle.billing.proofs.write.Tie as tie
 
 pub write-spec : {M : Type 1} → statement M
 write-spec =

@@ -1,7 +1,7 @@
+use Rattle.ndushavire.proofs.Words.{import-promised}
 use Rattle.octets.specs.Standard.{needs}
-use Rattle.billing.proofs.Ways.{import-promised}
-use Rattle.billing.proofs.ndushavire_import.Statement.{statement}
-use Rattle.billing.proofs.ndushavire_import.Tie as tie
+use Rattle.ndushavire.proofs.ndushavire_import.Statement.{statement}
+use Rattle.ndushavire.proofs.ndushavire_import.Tie as tie
 
 pub ndushavire-import-spec : {M : Type 1} → statement M
 ndushavire-import-spec =

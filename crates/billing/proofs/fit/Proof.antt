@@ -1,7 +1,7 @@
 use Rattle.octets.specs.Standard.{needs}
 use Rattle.billing.proofs.Ways.{fit-read, fit-not}
-use Rattle.billing.proofs.import.fit.Statement.{statement}
-use Rattle.billing.proofs.import.fit.Tie as tie
+use Rattle.billing.proofs.fit.Statement.{statement}
+use Rattle.billing.proofs.fit.Tie as tie
 
 pub fit-spec : {M : Type 1} → statement M
 fit-spec =

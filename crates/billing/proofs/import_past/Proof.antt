@@ -1,7 +1,7 @@
 use Rattle.octets.specs.Standard.{needs}
 use Rattle.billing.proofs.Ways.{sound-long, line-few, past-sound, past-wrong}
-use Rattle.billing.proofs.import.import_past.Statement.{statement}
-use Rattle.billing.proofs.import.import_past.Tie as tie
+use Rattle.billing.proofs.import_past.Statement.{statement}
+use Rattle.billing.proofs.import_past.Tie as tie
 
 pub import-past-spec : {M : Type 1} → statement M
 import-past-spec =

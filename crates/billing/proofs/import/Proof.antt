@@ -1,8 +1,8 @@
 use Rattle.octets.specs.Standard.{needs}
 use Rattle.judging.proofs.Fitting.{is-fit}
 use Rattle.billing.proofs.Ways.{import-fit, import-not}
-use Rattle.billing.proofs.import.import.Statement.{statement}
-use Rattle.billing.proofs.import.import.Tie as tie
+use Rattle.billing.proofs.import.Statement.{statement}
+use Rattle.billing.proofs.import.Tie as tie
 
 pub import-spec : {M : Type 1} → statement M
 import-spec =

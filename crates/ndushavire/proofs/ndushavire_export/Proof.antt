@@ -1,7 +1,7 @@
+use Rattle.ndushavire.proofs.Words.{export-promised}
 use Rattle.octets.specs.Standard.{needs}
-use Rattle.billing.proofs.Ways.{export-promised}
-use Rattle.billing.proofs.ndushavire_export.Statement.{statement}
-use Rattle.billing.proofs.ndushavire_export.Tie as tie
+use Rattle.ndushavire.proofs.ndushavire_export.Statement.{statement}
+use Rattle.ndushavire.proofs.ndushavire_export.Tie as tie
 
 pub ndushavire-export-spec : {M : Type 1} → statement M
 ndushavire-export-spec =

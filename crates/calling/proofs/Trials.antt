@@ -1,2 +1,0 @@
--- Laws of trials in order.
-pub use Rattle.refusals.proofs.Trials.{tried-by, tried-alike, tried-past}

@@ -1,2 +1,0 @@
--- What the first refusals leave.
-pub use Rattle.refusals.specs.Passed.{Passed}
