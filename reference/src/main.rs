@@ -16,7 +16,7 @@ use reference::neighbours;
 use reference::program;
 use reference::runs;
 use reference::show;
-use reference::slip::{self, Slip};
+use reference::slip::{self, Listed, Slip};
 use reference::stats;
 
 const USAGE: &str = "\
@@ -94,9 +94,10 @@ fn run(arguments: &[String]) -> Result<bool, String> {
         "cuts" => Ok(cuts::cuts(options.seed, options.numbers()?, options.slip)),
         "mutants" => Ok(mutants::mutants(options.seed, options.numbers()?)),
         "faults" => {
-            let faults = if options.silent { slip::SILENT } else { slip::FAULTS };
-            for (fault, what) in faults {
-                println!("{:30} {what}", format!("{fault:?}"));
+            let told = |it: &Listed| println!("{:30} {}", it.name, it.what);
+            match options.silent {
+                true => slip::SILENT.iter().for_each(told),
+                false => slip::faults().for_each(told),
             }
             Ok(true)
         }
