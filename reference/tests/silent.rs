@@ -33,7 +33,12 @@ fn no_case_shows_a_silent_fault() {
             }
             let truly = case.outcome(Slip::NONE);
             for it in SILENT {
-                assert!(case.outcome(Slip::of(it.fault)) == truly, "{stream:?} {number} shows {}: {}", it.name, it.what);
+                assert!(
+                    case.outcome(Slip::of(it.fault)) == truly,
+                    "{stream:?} {number} shows {}: {}",
+                    it.name,
+                    it.what
+                );
             }
             altering += (case.entry == Entry::Decide && case.entry.changed(&truly, Slice::Table)) as u32;
         }
