@@ -291,7 +291,7 @@ peers: target/c99/daemon target/c/maketable
 
 # After how many cases each deliberate fault of the independent program shows; what the cases are made of.
 COUNT_mutants := 100000
-#: mutants            whether 1,399 deliberate faults would be noticed, and after how many cases
+#: mutants            whether 1,410 deliberate faults would be noticed, and after how many cases
 mutants: $(BINARY)
 	@echo "mutants: seed $(SEED)"
 	$(BINARY) mutants --seed $(SEED) --count $(COUNT_mutants)
