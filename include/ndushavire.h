@@ -108,8 +108,8 @@
 extern "C" {
 #endif
 
-#define NDUSHAVIRE_VERSION "0.16.0"
-#define NDUSHAVIRE_VERSION_NUMBER 1600 /* the same to compare: major x 10,000 + minor x 100 + patch */
+#define NDUSHAVIRE_VERSION "0.17.0"
+#define NDUSHAVIRE_VERSION_NUMBER 1700 /* the same to compare: major x 10,000 + minor x 100 + patch */
 
 #define NDUSHAVIRE_ANSWER_ROOM 36864       /* the least answer buffer, in bytes: no answer is longer */
 #define NDUSHAVIRE_REQUEST_MIN 20          /* the shortest request, a Diameter header alone */
