@@ -418,17 +418,19 @@ DECIDED := 1-short 16-short 300-short 4096-short 1-tiny 16-tiny 300-tiny 4096-ti
 REPORTED := 16-short 300-short 4096-short
 PLAINLY := 16-short 300-short 4096-short 4096-short-2-4
 TAKEN := 16-short-2 300-short-2 4096-short-2 4096-long-2 4096-short-2-4
-TIMERS := $(addprefix target/bench/,check vectors decide report moves takes plain)
+LISTED := 4096-short-2 4096-long-2 4096-short-2-4 4096-long-2-4 4096-alike-2-4
+TIMERS := $(addprefix target/bench/,check vectors decide report moves takes list plain)
 # A program's arguments: each table, its profile file and how its names are. A table is named by its records, its names, for edition 2 by 2 and,
 # if it has sets, by how many records are in each.
 samples = $(foreach size,$(1),target/bench/$(size).table target/bench/$(size).profile $(word 2,$(subst -, ,$(size))))
 
 #: bench              times beside the aims, and what the plain engine takes beside the quick one, two minutes once their parts are made; a missed aim is marked
-bench: $(TIMERS) $(patsubst %,target/bench/%.table,$(sort $(CHECKED) $(SECOND) $(TAKEN) $(DECIDED)))
+bench: $(TIMERS) $(patsubst %,target/bench/%.table,$(sort $(CHECKED) $(SECOND) $(TAKEN) $(LISTED) $(DECIDED)))
 	@{ $(CC) --version | head -n 1; \
 	   target/bench/check $(call samples,$(CHECKED) $(SECOND)); \
 	   target/bench/moves $(call samples,$(CHECKED)); \
 	   target/bench/takes $(call samples,$(TAKEN)); \
+	   target/bench/list $(call samples,$(LISTED)); \
 	   target/bench/vectors $(call samples,$(CHECKED)); \
 	   target/bench/decide $(call samples,$(DECIDED)); \
 	   target/bench/plain $(call samples,$(PLAINLY)); \

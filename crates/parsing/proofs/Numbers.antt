@@ -1,5 +1,5 @@
 -- The numbers of a line: the turns of the loop that reads them.
-use Rattle.octets.specs.Standard.{ℕ, _+_, _-_, _<_, _≤_, Bool, true, false, _≡_, refl, sym, _∙_, ap, arith, add-one}
+use Rattle.octets.specs.Standard.{ℕ, _+_, _<_, _≤_, Bool, true, false, _≡_, refl, sym, _∙_, ap, arith, add-one}
 use Rattle.octets.specs.Standard.{List, [], _∷_, _++_, append-assoc, append-nil, length, take, drop, getD, set, length-append}
 use Rattle.octets.specs.Standard.{take-all, drop-cons, drop-drop, Option, none, some}
 use lib.Seq.{take-suc-set}
@@ -45,7 +45,7 @@ module _ (s : List ℕ) (at : ℕ) where
         ≡ andThen (numberAfter (getD limits i 0) (drop p s))
         (λ (v : ℕ). andThen (numbersIn (drop (i + 1) limits) (drop (1 + digitCount v) (drop p s))) (λ (vs : List ℕ). some (v ∷ vs)))
     unfolding numbersIn
-    next = rw (add-one i, drop-cons most i 0 h)
+    next = rw (add-one i, drop-cons limits i 0 h)
 
     not-read : n .size ≡ 0 → (0 ≡ endOf at (numbersIn limits (drop at s))) × Held (numbersIn limits (drop at s)) out
     not-read z = pick (numberAfter (getD limits i 0) (drop p s)) refl e
