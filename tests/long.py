@@ -13,7 +13,7 @@ ENDING = 3  # seconds kept back, in which a round that is cut ends what it start
 Check = collections.namedtuple('Check', 'target size first most parts said told')
 CHECKS = [
     Check('mutants', None, 0, 0, 2, r'^(\d+) of (\d+) faults noticed', '%d of %d faults noticed'),
-    Check('stats', None, 0, 0, 1, r'^ +(\d+) (?:cases|pairs)$', '%d cases looked at, and nothing that they must have is lacking'),
+    Check('stats', None, 0, 0, 1, r'^ *(\d+) (?:cases|pairs)(?:$|:)', '%d cases looked at, and nothing that they must have is lacking'),
     Check('definitions-check', 'COUNT_DEFINITIONS', 12, 300, 6, r'agree in (\d+) cases of \d+ kinds, in (\d+) take-overs and in (\d+) calls of Sh',
           '%d calls, %d take-overs and %d calls of Sh computed from the definitions'),
     Check('cuts', 'COUNT_cuts', 50, 1000, 1, r'^cuts: (\d+) take-overs killed', '%d take-overs killed'),
