@@ -442,16 +442,18 @@ DECIDED := 1-short 16-short 300-short 4096-short 1-tiny 16-tiny 300-tiny 4096-ti
 REPORTED := 16-short 300-short 4096-short
 PLAINLY := 16-short 300-short 4096-short 4096-short-2-4
 TAKEN := 16-short-2 300-short-2 4096-short-2 4096-long-2 4096-short-2-4
+LISTED := 4096-short-2 4096-long-2 4096-short-2-4 4096-long-2-4 4096-alike-2-4
 # A program's arguments: each table, its profile file and how its names are. A table is named by its records, its names, for edition 2 by 2 and,
 # if it has sets, by how many records are in each.
 samples = $(foreach size,$(1),target/bench/$(size).table target/bench/$(size).profile $(word 2,$(subst -, ,$(size))))
 
 #: bench              times beside the aims, and what the plain engine takes beside the quick one, two minutes once their parts are made; a missed aim is marked
-bench: $(addprefix target/bench/,check vectors moves takes decide plain report) $(patsubst %,target/bench/%.table,$(sort $(CHECKED) $(SECOND) $(TAKEN) $(DECIDED)))
+bench: $(addprefix target/bench/,check vectors moves takes list decide plain report) $(patsubst %,target/bench/%.table,$(sort $(CHECKED) $(SECOND) $(TAKEN) $(LISTED) $(DECIDED)))
 	@{ $(CC) --version | head -n 1; \
 	   target/bench/check $(call samples,$(CHECKED) $(SECOND)); \
 	   target/bench/moves $(call samples,$(CHECKED)); \
 	   target/bench/takes $(call samples,$(TAKEN)); \
+	   target/bench/list $(call samples,$(LISTED)); \
 	   target/bench/vectors $(call samples,$(CHECKED)); \
 	   target/bench/decide $(call samples,$(DECIDED)); \
 	   target/bench/plain $(call samples,$(PLAINLY)); \
@@ -489,7 +491,7 @@ target/bench/check target/bench/vectors: target/bench/%: bench/%.c $(TIMER) $(SU
 target/bench/decide: bench/decide.c $(TIMER)
 	$(CC) -std=c99 $(STRICT) -o $@ $< $(TIMED) target/bench/libreference_c.a -lpthread -ldl -lm
 
-target/bench/report target/bench/moves target/bench/takes target/bench/plain: target/bench/%: bench/%.c $(TIMER)
+target/bench/report target/bench/moves target/bench/takes target/bench/list target/bench/plain: target/bench/%: bench/%.c $(TIMER)
 	$(CC) -std=c99 $(STRICT) -o $@ $< $(TIMED)
 
 # One program for both bindings: which it is says the environment that it is run in.

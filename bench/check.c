@@ -37,17 +37,6 @@ static uint64_t rust(const void *sample) {
 enum { PROVED, PLAIN, NATIVE, RUST, SUBJECTS };
 static Subject *const subject[SUBJECTS] = {proved, plain, native, rust};
 
-/* How many records are of the first record's set, and 0 if it has none: its number stands at byte 406, its card's name at 144. */
-static unsigned members(const Sample *s) {
-    const uint8_t *first = s->table + NDUSHAVIRE_BLOCK;
-    unsigned count = 0;
-    for (size_t k = 0; k < s->records; k++) {
-        const uint8_t *block = first + NDUSHAVIRE_BLOCK * k;
-        count += memcmp(block + 406, first + 406, 2) == 0 && memcmp(block + 144, first + 144, 128) == 0;
-    }
-    return first[406] == 0 && first[407] == 0 ? 0 : count;
-}
-
 /* Where names are made to be alike nothing is aimed at: such a table stays right, and takes what it takes. */
 static Aim aim_of(const Sample *s) {
     if (s->records != NDUSHAVIRE_RECORDS_MAX || strcmp(s->names, "alike") == 0) return NONE;

@@ -59,17 +59,6 @@ static int alike(const Call *c) {
     return same;
 }
 
-/* The median time of one call, in microseconds, of fewer rounds where a call takes long. */
-static double median_of(Subject *subject, const Call *c) {
-    static double took[ROUNDS];
-    const double once = turn(subject, c, 1);
-    const long calls = 1 + (long)(TURN / once);
-    const int rounds = once > 20000 ? 3 : once > 2000 ? 15 : ROUNDS;
-    for (int round = 0; round < rounds; round++) took[round] = turn(subject, c, calls);
-    qsort(took, (size_t)rounds, sizeof took[0], by_time);
-    return took[rounds / 2];
-}
-
 static int measure(const Sample *s, Vectors vectors, const Request *request, const char *what, const char *sets) {
     static uint8_t answer[NDUSHAVIRE_ANSWER_ROOM];
     const Call c = {s, s->table, answer, vectors, request};

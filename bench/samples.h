@@ -2,6 +2,8 @@
 #ifndef SAMPLES_H
 #define SAMPLES_H
 
+#include <string.h>
+
 #include <ndushavire.h>
 
 #include "../examples/load.h"
@@ -11,6 +13,17 @@ typedef struct {
     size_t table_len, profile_len, records;
     const char *path, *names; /* names as bench/households.sh has them: short, ims, long, tiny, alike */
 } Sample;
+
+/* How many records are of the first record's set, and 0 if it has none: its number stands at byte 406, its card's name at 144. */
+static inline unsigned members(const Sample *s) {
+    const uint8_t *first = s->table + NDUSHAVIRE_BLOCK;
+    unsigned count = 0;
+    for (size_t k = 0; k < s->records; k++) {
+        const uint8_t *block = first + NDUSHAVIRE_BLOCK * k;
+        count += memcmp(block + 406, first + 406, 2) == 0 && memcmp(block + 144, first + 144, 128) == 0;
+    }
+    return first[406] == 0 && first[407] == 0 ? 0 : count;
+}
 
 /* The program's exit status: 2 if the arguments are no triples, 1 if a sample fails. */
 static int each_sample(int argc, char **argv, const char *head, int (*passes)(const Sample *)) {

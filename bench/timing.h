@@ -44,4 +44,15 @@ static inline void medians(Subject *const subject[], int subjects, const void *s
     }
 }
 
+/* The median time of one call of a subject by itself, in microseconds, of fewer rounds where a call takes long. */
+static inline double median_of(Subject *subject, const void *sample) {
+    static double took[ROUNDS];
+    const double once = turn(subject, sample, 1);
+    const long calls = 1 + (long)(TURN / once);
+    const int rounds = once > 1e6 ? 1 : once > 20000 ? 3 : once > 2000 ? 15 : ROUNDS;
+    for (int round = 0; round < rounds; round++) took[round] = turn(subject, sample, calls);
+    qsort(took, (size_t)rounds, sizeof took[0], by_time);
+    return took[rounds / 2];
+}
+
 #endif

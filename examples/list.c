@@ -2,8 +2,8 @@
  * list import LIST HEADER PROFILE NEW: makes the table that a list says, as the new file NEW. HEADER is the table that was exported, or its header block
  * alone: its first 512 bytes are read.
  * It is installed as ndushavire-list.
- * No file is written over, the last good table least of all: LIST and NEW must not be there, nor LIST.new and NEW.new, which are written first and then
- * renamed. What is said goes to standard output. Where the list goes there, nothing else does: why it is refused goes to standard error.
+ * No file is written over, the last good table least of all: LIST and NEW must not be there, nor LIST.new and NEW.new, which are written first and then get
+ * that name (newfile.h). What is said goes to standard output. Where the list goes there, nothing else does: why it is refused goes to standard error.
  * Exit status: 0 done, and the new file is on disk; 5, 13, 14 or 15 refused by that number, and there is no new file; 2 a file cannot be read or stored,
  * standard output cannot be written, or the arguments are others. */
 #define _POSIX_C_SOURCE 200809L
@@ -91,7 +91,7 @@ static const char *matter(const uint8_t *at, size_t left, unsigned long line) {
     if (left >= 3 && memcmp(at, "\xEF\xBB\xBF", 3) == 0) return "begins with a byte order mark";
     if (end == NULL) return "does not end in CR LF";
     if (end == at || end[-1] != '\r') return "ends in LF alone";
-    return line == 1 ? "does not name the columns" : "is in another form, or breaks a rule of the table";
+    return line == 1 ? "does not name the columns" : "is in another form, breaks a rule of the table, or leaves no names for the lines that must follow";
 }
 
 /* The first bytes of a line, those that are not to be printed in hexadecimal digits. */
@@ -138,7 +138,7 @@ static int import_list(char **paths) {
     } else if (number == NDUSHAVIRE_TABLE_UNSOUND && header_len < NDUSHAVIRE_BLOCK) {
         printf("refused 5, the header block has %lu bytes\n", (unsigned long)header_len);
     } else if (number == NDUSHAVIRE_TABLE_UNSOUND) {
-        printf("refused 5, the header block %s\n", ndushavire_edition(header) == 1 ? "says edition 1" : "is bad");
+        printf("refused 5, the header block %s\n", ndushavire_edition(header) == 1 ? "is of edition 1, or bad" : "is bad");
     } else {
         printf("refused %lu\n", number);
     }

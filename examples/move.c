@@ -2,7 +2,7 @@
  * move back TABLE PROFILE NEW: moves a table of edition 2 in which every set number is 0 to edition 1.
  * It is installed as ndushavire-move.
  * The moved table is the new file NEW, and TABLE stays as it is: a move within the file would mix editions if the power went. NEW must
- * not be there, nor NEW.new, which is written first and then renamed. A daemon goes on with TABLE until it is given the other one.
+ * not be there, nor NEW.new, which is written first and then gets that name. A daemon goes on with TABLE until it is given the other one.
  * Exit status: 0 moved, and NEW is on disk; 1 refused, and there is no NEW; 2 a file cannot be read or stored, standard output cannot
  * be written, or the arguments are others. */
 #define _POSIX_C_SOURCE 200809L

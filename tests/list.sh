@@ -146,7 +146,7 @@ refused_table 5 "block $records is bad" '5 before 13'
 cp "$room/second" "$table"
 list_of "$table" >"$room/good"
 last=$((records + 1))
-other='is in another form, or breaks a rule of the table'
+other='is in another form, breaks a rule of the table, or leaves no names for the lines that must follow'
 line_of() { sed -n "$1p" "$csv" | tr -d '\r' | cut -c 1-120; } # LINE
 wrong() { # LINE WORDS ABOUT, of the list in $csv
     refused_list 14 "line $1 $2"$'\n'"    $(line_of "$1")" "$3"
@@ -209,7 +209,7 @@ awk -F, -v OFS=, 'NR == 2 { $19 = 4294967295; $20 = 1 } 1' "$room/good" >"$csv"
 wrong 2 "$other" 'a part of the profile past its end'
 # The header block: 5 goes before 14.
 cp "$room/first" "$table"
-refused_list 5 'the header block says edition 1' 'a header block of edition 1'
+refused_list 5 'the header block is of edition 1, or bad' 'a header block of edition 1'
 cp "$room/second" "$table"
 flip "$table" 511 1
 refused_list 5 'the header block is bad' 'a bad header block'

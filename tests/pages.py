@@ -30,6 +30,7 @@ STATEMENTS = {
     'demands/Unreachable': '02 [7]',
     'list_laws/Exactly': '02 [14]',
     'list_laws/FirstLine': '02 [14]',
+    'list_laws/Longest': '02 [14]',
     'list_laws/Refusing': '02 [14]',
     'list_laws/Words': '02 [14]',
     'moving/Moving': '02 [5]',

@@ -53,7 +53,7 @@ fn line(before: u32) -> u32
     before + 1
 }
 
-// Over the first wrong line.
+// What follows from the first wrong line.
 fn import_past(list: &[u8], header: &[u8], file: usize, area: &mut [u8], wrong: Checked) -> Listed
     requires { ⌜ Fit (now header) × (wrong ≡ firstWrong (now list) (now header) file) ⌝ }
     ensures { λ r. ⌜ came r (now (area .exit)) ≡ importPast (now (list .entry)) (now (header .entry)) (now (area .entry)) wrong ⌝ }

@@ -1,5 +1,5 @@
 -- A list that has no wrong line: the table that it says is one that export can list, and this is its list.
-use Rattle.octets.specs.Standard.{ℕ, zero, suc, _+_, _-_, _*_, _<_, _≤_, true, _≡_, refl, sym, _∙_, ap, arith}
+use Rattle.octets.specs.Standard.{ℕ, zero, suc, _+_, _*_, _<_, _≤_, true, _≡_, refl, sym, _∙_, ap, arith}
 use Rattle.octets.specs.Standard.{eqb, eqb-true, List, [], _∷_, _++_, append-assoc, append-nil, length}
 use Rattle.octets.specs.Standard.{take, drop, getD, length-replicate, take-append-drop, drop-drop, drop-of-length-le, Option, none}
 use Rattle.octets.specs.Standard.{some}
@@ -66,30 +66,31 @@ module _ (list header : List ℕ) (fit : FitHeader header) where
   unfolding saidAt
   said-header = said-block 0 (omega arith)
 
-  -- a line that says a sound record is one
-  module _ (file n : ℕ) (h : n < count) (good : soundAt said (headerOf header) file (suc n) ≡ true) where
-    pub record-good : soundRecord (blockOf said (suc n)) (suc n) (headerOf header) file ≡ true
-    unfolding soundAt standsAt
-    record-good =
-        and-left (soundRecord (blockOf said (suc n)) (suc n) (headerOf header) file) (risesAt said (suc n))
-        (and-left (standsAt said (headerOf header) file (suc n)) (agreesAt said (suc n)) good)
+  pub record-good : (file n : ℕ) → soundAt said (headerOf header) file (suc n) ≡ true
+      → soundRecord (blockOf said (suc n)) (suc n) (headerOf header) file ≡ true
+  unfolding soundAt standsAt
+  record-good file n good =
+      and-left (soundRecord (blockOf said (suc n)) (suc n) (headerOf header) file) (risesAt said (suc n))
+      (and-left (standsAt said (headerOf header) file (suc n)) (agreesAt said (suc n)) good)
 
+  -- a line that says a sound record is one
+  module _ (file n : ℕ) (h : n < count) (good : soundRecord (blockOf said (suc n)) (suc n) (headerOf header) file ≡ true) where
     kind-two : getD (saidAt list header (suc n)) 0 0 ≡ 2
     unfolding recordOf
     kind-two =
-        let t : RecordTests (blockOf said (suc n)) (suc n) (headerOf header) file = record-says _ _ _ _ record-good in
+        let t : RecordTests (blockOf said (suc n)) (suc n) (headerOf header) file = record-says _ _ _ _ good in
         let s = chain-says (eqb (getD (blockOf said (suc n)) 0 0) 2) (_ ∷ _ ∷ _ ∷ []) (t .head) in
         rw (said-block (suc n) h) at (eqb-true (getD (blockOf said (suc n)) 0 0) 2 (s 0))
 
-    pub record Row-there : Type 0 where
+    pub record RowThere : Type 0 where
       pub row : Row
       pub read : rowIn (drop (placeOf list n) list) ≡ some row
 
-    pub row-there : Row-there
+    pub row-there : RowThere
     unfolding saidAt
     row-there = go (rowIn (drop (placeOf list n) list)) refl kind-two
       where
-        go : (o : Option Row) → rowIn (drop (placeOf list n) list) ≡ o → getD (blockSaid (issueOf header) (suc n) o) 0 0 ≡ 2 → Row-there
+        go : (o : Option Row) → rowIn (drop (placeOf list n) list) ≡ o → getD (blockSaid (issueOf header) (suc n) o) 0 0 ≡ 2 → RowThere
         go none e f = absurd (omega arith)
         go (some r) e f = record { row = r; read = e }
 
@@ -106,6 +107,9 @@ module _ (list header : List ℕ) (fit : FitHeader header) where
     place-next : placeOf list (suc n) ≡ placeOf list n + length (lineOf r)
     unfolding placeOf
     place-next = rw (row-there .read)
+
+    pub place-after : placeOf list (suc n) ≡ placeOf list n + length (lineOf (rowOf (blockOf said (suc n))))
+    place-after = rw row-is place-next
 
     -- the list goes on with that line
     pub line-here : drop (placeOf list n) list ≡ lineOf (rowOf (blockOf said (suc n))) ++ drop (placeOf list (suc n)) list
@@ -128,7 +132,7 @@ module _ (list header : List ℕ) (fit : FitHeader header) where
         rw (append-nil firstLine) (sym (take-append-drop (length firstLine) list) ∙ rw e)
     front (suc n) h =
         let l : lineOf (rowOf (blockOf said (suc n))) ++ drop (placeOf list (suc n)) list ≡ drop (placeOf list n) list =
-        sym (line-here file n (omega arith) (each (suc n) (omega arith) h)) in
+        sym (line-here file n (omega arith) (record-good file n (each (suc n) (omega arith) h))) in
         front n (omega arith)
         ∙ sym
         (append-assoc firstLine (linesOf said n ++ lineOf (rowOf (blockOf said (suc n)))) (drop (placeOf list (suc n)) list)
@@ -155,7 +159,7 @@ module _ (list header : List ℕ) (fit : FitHeader header) where
       where
         pick : (k : ℕ) → 1 ≤ k → k ≤ count → listableAt said k ≡ true
         pick zero a b = absurd (omega arith)
-        pick (suc n) a b = names-here file n b (each (suc n) a b)
+        pick (suc n) a b = names-here file n b (record-good file n (each (suc n) a b))
 
     pub list-said : placeOf list count ≡ length list → listOf said ≡ list
     unfolding listOf

@@ -1,2 +1,2 @@
-// A list read back as a table: import.
+// Import as a definition, with its laws; the code here is the test of the look-ahead.
 pub mod above;

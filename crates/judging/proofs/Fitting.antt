@@ -4,6 +4,7 @@ use Rattle.octets.specs.Standard.{leb, le-leb, lt-leb, leb-false, List, length,
 use Rattle.octets.specs.Name.{orderOf}
 use Rattle.octets.specs.declared.name.Order.{Order}
 use Rattle.octets.specs.declared.name.Order.the-variants.{Less, Equal, Greater}
+use Rattle.octets.proofs.All.{and-left}
 use Rattle.record.specs.Fields.{countOf, issueOf, publicOf}
 use Rattle.record.specs.HeaderBlock.{headerOf}
 use Rattle.record.specs.RecordBlock.{recordOf, soundRecord}
@@ -13,15 +14,17 @@ use Rattle.blocks.specs.Blocks.{blockOf}
 use Rattle.table.specs.Check.{isLess, standsAt, risesAt}
 use Rattle.table.specs.Named.{publicAt}
 use Rattle.quoting.specs.Quoted.{listable}
-use Rattle.rows.specs.Row.{Row, rowOf}
+use Rattle.rows.specs.Row.{Row, rowOf, lineOf}
 use Rattle.rows.specs.RowIn.{rowIn}
 use Rattle.rows.specs.Block.{blockFrom, blockSaid}
 use Rattle.rows.proofs.Lines as line
 use Rattle.rows.proofs.Blocks.{row-said}
+use Rattle.rows.proofs.Written.{line-short}
 use Rattle.importing.specs.Above.{above}
 use Rattle.importing.specs.Said.{placeOf, saidAt, tableSaid, enoughAt}
 use Rattle.importing.specs.Import.{fitHeader}
-use Rattle.importing.proofs.Accepts.{FitHeader, header-fits, said-block}
+use Rattle.importing.proofs.Accepts.{FitHeader, header-fits, said-block, place-after}
+use Rattle.saying.proofs.Reading.{line-some}
 use Rattle.judging.specs.Fit.{Fit}
 use Rattle.judging.specs.Passes.{fitsAt, follows, fitsBehind, LineBefore}
 
@@ -125,6 +128,30 @@ module _ (list header : List ℕ) (fit : Fit header) (file m : ℕ) (h : m < cou
       (e
       ∙ rw eq
       (sym (and-assoc (soundRecord b (m + 1) (headerOf header) file) (follows a b (m + 1)) (leb (countOf header - (m + 1)) (above 128 (publicOf b))))))
+
+-- A record that fits has a line, which is not too long.
+module _ (list header : List ℕ) (fit : Fit header) (file m : ℕ) (h : m < countOf header) (good : fitsAt list header file (m + 1) ≡ true) where
+  abbrev block : List ℕ
+  block = blockOf (tableSaid list header) (suc m)
+
+  record-good : soundRecord block (suc m) (headerOf header) file ≡ true
+  unfolding fitsAt standsAt
+  record-good =
+      let g : fitsAt list header file (suc m) ≡ true = rw (add-one m) at good in
+      and-left (soundRecord block (suc m) (headerOf header) file) (risesAt (tableSaid list header) (suc m))
+      (and-left (standsAt (tableSaid list header) (headerOf header) file (suc m)) (enoughAt (tableSaid list header) (countOf header) (suc m)) g)
+
+  after : placeOf list (m + 1) ≡ placeOf list m + length (lineOf (rowOf block))
+  after = rw (add-one m) (place-after list header (header-fits header (fit .fits)) file m h record-good)
+
+  pub line-there : placeOf list m < placeOf list (m + 1)
+  line-there = omega (arith, after, line-some (rowOf block))
+
+  pub line-most : placeOf list (m + 1) ≤ placeOf list m + 1024
+  unfolding recordOf
+  line-most =
+      let l : Limits (recordOf block) = limits-say (recordOf block) (record-says block (suc m) (headerOf header) file record-good .limits) in
+      omega (arith, after, line-short block (l .public) (l .private) (l .server))
 
 -- The header's numbers, by what is read of it.
 module _ (header : List ℕ) (fit : Fit header) (h : Header) (e : h ≡ headerOf header) where

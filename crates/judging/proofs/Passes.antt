@@ -18,13 +18,13 @@ use Rattle.table.proofs.Leading.{two-passes}
 use Rattle.listing.specs.ListOf.{firstLine}
 use Rattle.listing.proofs.Lists.{first-length}
 use Rattle.importing.specs.Said.{tableSaid, enoughAt, holdsAt, isTitled, overRecords, firstWrong}
-use Rattle.saying.specs.Noted.{noted, Noted}
-use Rattle.saying.proofs.Reading.{place-first, noted-none, noted-less, noted-more, said-whole}
+use Rattle.saying.specs.Noted.{noted}
+use Rattle.saying.proofs.Reading.{place-first, noted-none, noted-more, said-whole}
 use Rattle.judging.specs.Fit.{Fit}
 use Rattle.judging.specs.Passes.{fitsAt, Turned, Standing, StoodSo, verdictOf}
 use Rattle.judging.specs.declared.standing.Stood.{Stood}
 use Rattle.judging.specs.declared.standing.Turn.{Turn}
-use Rattle.judging.proofs.Fitting.{fit-here}
+use Rattle.judging.proofs.Fitting.{fit-here, line-there, line-most}
 
 -- all of a block is written over
 whole-over : (b a : List ℕ) {c : List ℕ} {r : ℕ} → length b ≡ 512 → length a ≡ 512 → Wrote b a c r → c ≡ b
@@ -32,7 +32,7 @@ unfolding over
 whole-over b a l m w = w .bytes ∙ rw (drop-of-length-le a {i = length b} (omega arith)) (append-nil b)
 
 module _ (list header : List ℕ) (fit : Fit header) (file : ℕ) where
-  pub standing-none : (places a : List ℕ) → 121 ≤ length list → length places ≡ 65 → length a ≡ 512 → Standing list header file places a 0 121 0
+  pub standing-none : (places a : List ℕ) → 121 ≤ length list → length places ≡ 128 → length a ≡ 512 → Standing list header file places a 0 121 0
   standing-none places a l p s =
       record {
         few = omega arith;
@@ -40,21 +40,24 @@ module _ (list header : List ℕ) (fit : Fit header) (file : ℕ) where
         none = all-none (setless (tableSaid list header));
         place = place-first list;
         within = l;
+        near = omega arith;
         noted = noted-none list places p;
         before = record { size = s; said = λ h. absurd (omega arith) };
       }
 
   module _ (places a : List ℕ) (m at sets : ℕ) (s : Standing list header file places a m at sets) where
-    module _ (h : m < countOf header) {ps b : List ℕ} {t : Turn} (kept : ps ≡ noted places m at) (turn : Turned list header file at m b t) where
-      kept-more : Noted list ps (m + 1)
-      kept-more = noted-more list places m at kept (s .place) (omega (arith, fit .few)) (s .noted)
+    -- a place is of 32 bits
+    pub place-small : m < countOf header → at < 4294967296
+    place-small h = omega (arith, s .near, fit .few)
 
+    module _ (h : m < countOf header) {b : List ℕ} {t : Turn} (turn : Turned list header file at m b t) where
       set-is : eqb (t .set) 0 ≡ setless (tableSaid list header) m
       set-is = setless-read (tableSaid list header) m b (fit-here list header (m + 1) fit (omega arith) (turn .said)) (turn .set)
 
-      pub standing-more : {c : List ℕ} → t .fits ≡ true → Wrote b a c (length b)
+      pub standing-more : {ps c : List ℕ} → t .fits ≡ true → ps ≡ noted places m at → Wrote b a c (length b)
           → Standing list header file ps c (m + 1) (at + t .size) (bitOr sets (t .set))
-      standing-more f w =
+      standing-more f kept w =
+          let good : fitsAt list header file (m + 1) ≡ true = sym (turn .fits) ∙ f in
           let lb : length b ≡ 512 = ap length (turn .said) ∙ said-whole list header (m + 1) (fit .size) in
           let e : _ ≡ b = whole-over b a lb (s .before .size) w in
           record {
@@ -63,18 +66,19 @@ module _ (list header : List ℕ) (fit : Fit header) (file : ℕ) where
             none = setless-more (tableSaid list header) m sets (t .set) (s .none) set-is;
             place = turn .place;
             within = turn .within;
-            noted = kept-more;
+            near = omega (arith, s .near, s .place, turn .place, line-most list header fit file m h good);
+            noted = noted-more list places m at kept (s .place) (omega (arith, fit .few)) (line-there list header fit file m h good) (s .noted);
             before = record { size = ap length e ∙ lb; said = λ l. e ∙ turn .said };
           }
 
-      pub stood-here : t .fits ≡ false → StoodSo list header file ps (record { records = m; setless = eqb (bitOr sets (t .set)) 0; end = at })
+      pub stood-here : t .fits ≡ false → StoodSo list header file places (record { records = m; setless = eqb (bitOr sets (t .set)) 0; end = at })
       stood-here f =
           record {
             records = leading-stop (fitsAt list header file) (countOf header) m (s .left) h (turn .fits) f;
             few = s .few;
             none = setless-left (tableSaid list header) m sets (t .set) (s .none);
             place = s .place;
-            noted = noted-less list ps m (m + 1) (omega arith) kept-more;
+            noted = s .noted;
           }
 
     pub stood-end : countOf header ≤ m → StoodSo list header file places (record { records = m; setless = eqb sets 0; end = at })

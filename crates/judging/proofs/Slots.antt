@@ -1,5 +1,5 @@
 -- The second pass: a block that is remembered is read again out of the list, and the laws of the table's own check serve the table that the list says.
-use Rattle.octets.specs.Standard.{ℕ, _+_, _-_, _*_, _/_, _%_, _<_, _≤_, Bool, true, false, cond, true≢false, _≡_, refl, sym, _∙_, arith}
+use Rattle.octets.specs.Standard.{ℕ, _+_, _*_, _/_, _%_, _<_, _≤_, Bool, true, false, cond, true≢false, _≡_, refl, sym, _∙_, arith}
 use Rattle.octets.specs.Standard.{List, eqb, eqb-true, eqb-false, eq-eqb, ne-eqb, length, getD, set}
 use Rattle.record.specs.Fields.{countOf, setOf}
 use Rattle.record.specs.Sets.{sameSet, agreeing}

@@ -1,5 +1,5 @@
 -- A list is judged in two passes: each record in its place, then the sets of those that stand.
-use Prim.Native.Nat.{ℕ, _+_, _-_, _<_, _≤_}
+use Prim.Native.Nat.{ℕ, _+_, _-_, _*_, _<_, _≤_}
 use mathlib.Core.Bool.{Bool, true, _&&_, cond}
 use mathlib.Core.Path.{_≡_}
 use mathlib.Core.List.{List}
@@ -52,6 +52,7 @@ pub record Standing (list header : List ℕ) (file : ℕ) (places a : List ℕ) 
   pub none : eqb sets 0 ≡ allBelow (setless (tableSaid list header)) m
   pub place : at ≡ placeOf list m
   pub within : at ≤ length list
+  pub near : at ≤ 121 + 1024 * m
   pub noted : Noted list places m
   pub before : LineBefore list header a m
 

@@ -47,7 +47,7 @@ fn records(list: &[u8], header: &[u8], file: usize) -> Checked
     ensures { λ r. ⌜ r ≡ firstWrong (now (list .entry)) (now (header .entry)) file ⌝ }
 {
     let count = number::be32(header, Header::COUNT_AT) as usize;
-    let mut places = [0usize; 65];
+    let mut places = [0u32; 128];
     let mut a = [0u8; BLOCK];
     let mut b = [0u8; BLOCK];
     let s = standing::standing(list, header, file, &mut places, &mut a, &mut b);

@@ -22,7 +22,7 @@ fn stops(
     b: &[u8],
     list: &[u8],
     header: &[u8],
-    places: &[usize],
+    places: &[u32],
     hash: usize,
     word: usize,
 ) -> bool
@@ -53,7 +53,7 @@ fn find(
     b: &[u8],
     list: &[u8],
     header: &[u8],
-    places: &[usize],
+    places: &[u32],
     slots: &[u16],
     k: usize,
 ) -> Found
@@ -93,7 +93,7 @@ fn agrees_by(
     b: &[u8],
     list: &[u8],
     header: &[u8],
-    places: &[usize],
+    places: &[u32],
     slots: &mut [u16],
     k: usize,
 ) -> bool
@@ -114,7 +114,7 @@ fn agrees_by(
 pub fn agreeing(
     list: &[u8],
     header: &[u8],
-    places: &[usize],
+    places: &[u32],
     n: usize,
     a: &mut [u8],
     b: &mut [u8],

@@ -83,16 +83,16 @@ pub struct Stood {
     pub end: usize,
 }
 
-// The pass. The places of some lines are kept for the pass over the sets.
+// The pass. The places of some lines that stand are kept for the pass over the sets.
 pub fn standing(
     list: &[u8],
     header: &[u8],
     file: usize,
-    places: &mut [usize],
+    places: &mut [u32],
     a: &mut [u8],
     b: &mut [u8],
 ) -> Stood
-    requires { ⌜ Fit (now header) × (121 ≤ length (now list)) × (length (now places) ≡ 65) × (length (now a) ≡ 512)
+    requires { ⌜ Fit (now header) × (121 ≤ length (now list)) × (length (now places) ≡ 128) × (length (now a) ≡ 512)
         × (length (now b) ≡ 512) ⌝ }
     ensures { λ r. ⌜ StoodSo (now (list .entry)) (now (header .entry)) file (now (places .exit)) r ⌝ }
 {
@@ -101,10 +101,10 @@ pub fn standing(
     let mut at = saying::FIRST;
     let mut sets: u32 = 0;
     while m < count {
-        saying::note(places, m, at);
         let t = judge(a, b, list, header, file, at, m);
         sets = sets | t.set;
         if t.fits {
+            saying::note(places, m, at);
             run::copy(a, b);
             at += t.size;
             m += 1;

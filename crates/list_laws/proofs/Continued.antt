@@ -74,9 +74,9 @@ module _ (list header : List ℕ) (file m : ℕ) (bytes : Bytes header) (fits : 
   last-good zero h e = record { listed = refl; size = omega arith; enough = omega (arith, count-few, many-names) }
   last-good (suc n) h e =
       let s : soundAt said (headerOf header) file (suc n) ≡ true = sound-each (suc n) (omega arith) h in
-      let r : soundRecord (blockOf said (suc n)) (suc n) (headerOf header) file ≡ true = accepts.record-good list header fit file n (omega arith) s in
+      let r : soundRecord (blockOf said (suc n)) (suc n) (headerOf header) file ≡ true = accepts.record-good list header fit file n s in
       let l : Limits (recordOf (blockOf said (suc n))) = limits-say _ (record-says _ _ _ _ r .limits) in
-      let names = accepts.names-here list header fit file n (omega arith) s in
+      let names = accepts.names-here list header fit file n (omega arith) r in
       record {
         listed =
             and-left (listable (publicOf (blockOf said (suc n)))) _
@@ -257,7 +257,8 @@ module _ (list header : List ℕ) (file m : ℕ) (bytes : Bytes header) (fits : 
     where
       old : (n : ℕ) → 1 ≤ n → n ≤ m → listableAt said n ≡ true
       old zero g h = absurd (omega arith)
-      old (suc n) g h = accepts.names-here list header fit file n (omega arith) (sound-each (suc n) (omega arith) h)
+      old (suc n) g h =
+          accepts.names-here list header fit file n (omega arith) (accepts.record-good list header fit file n (sound-each (suc n) (omega arith) h))
 
       go : (x : Bool) → leb k m ≡ x → listableAt table k ≡ true
       go true e = let l : k ≤ m = leb-true k m e in rw (kept k l) (old k a l)

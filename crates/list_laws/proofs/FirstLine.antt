@@ -1,5 +1,5 @@
 -- "14, with the number of the first line, present or missing, that no export could hold there": of the beginnings that the list shares with exports under
--- the header block and beside the profile file, the longest holds as many line ends as lines stand before the one that is named.
+-- the header block and beside the profile file, some holds as many line ends as lines stand before the one that is named, and none holds more.
 use Rattle.octets.specs.Standard.{ℕ, suc, _+_, _-_, _<_, _≤_, Bool, true, false, cond, true≢false, _≡_, refl, sym, _∙_, ap, arith}
 use Rattle.octets.specs.Standard.{eqb, ltb, le-leb, ltb-true, ltb-false, List, _++_, append-assoc, length, length-append}
 use Rattle.octets.specs.Standard.{take, drop, take-all, take-at, take-take, take-append-le, take-append-drop}
@@ -18,11 +18,9 @@ use Rattle.table.specs.Named.{publicAt}
 use Rattle.table.proofs.Areas.{sound-same}
 use Rattle.listing.specs.ListOf.{firstLine, linesOf, listOf}
 use Rattle.listing.proofs.Lists.{list-is}
-use Rattle.listing.specs.Export.{came, refusing, writing}
-use Rattle.listing.specs.declared.Listed.the-variants.{Written, Refused}
 use Rattle.importing.specs.Above.{above}
 use Rattle.importing.specs.Said.{placeOf, tableSaid, enoughAt, holdsAt, isTitled, overRecords, firstWrong}
-use Rattle.importing.specs.Import.{fitHeader, importPast, imported}
+use Rattle.importing.specs.Import.{fitHeader}
 use Rattle.importing.proofs.Accepts as accepts
 use Rattle.importing.proofs.Accepts.{FitHeader}
 use Rattle.importing.proofs.Given as given
@@ -31,26 +29,20 @@ use Rattle.list_laws.specs.Ends.{lineEnds}
 use Rattle.list_laws.proofs.Ends.{ends-more}
 use Rattle.list_laws.proofs.Lines.{lines-end, lines-cut}
 use Rattle.list_laws.proofs.Continued as continued
+use Rattle.list_laws.proofs.Exports.{Shared, SharedEnds, NamedLine, exportable-of, list-of, export-of}
 
--- the first n bytes of a list are those of some export's
-pub record Shared (list header : List ℕ) (file n : ℕ) : Type 0 where
-  pub table : List ℕ
-  pub exportable : Exportable header file table
-  pub in-list : n ≤ length list
-  pub in-export : n ≤ length (listOf table)
-  pub alike : take n list ≡ take n (listOf table)
+-- The same of the table that is exported: the first n bytes of a list are those of its list.
+record Begun (list header : List ℕ) (file n : ℕ) : Type 0 where
+  table : List ℕ
+  exportable : Exportable header file table
+  in-list : n ≤ length list
+  in-export : n ≤ length (listOf table)
+  alike : take n list ≡ take n (listOf table)
 
--- a shared beginning with so many line ends
-pub record SharedEnds (list header : List ℕ) (file k : ℕ) : Type 0 where
-  pub place : ℕ
-  pub shared : Shared list header file place
-  pub ends : lineEnds (take place list) ≡ k
-
--- k lines stand before the one that no export could hold there: some shared beginning holds k line ends, none holds more, and so the longest holds k
-pub record NamedLine (list header : List ℕ) (file k : ℕ) : Type 0 where
-  pub some : SharedEnds list header file k
-  pub most : (n : ℕ) → Shared list header file n → lineEnds (take n list) ≤ k
-  pub longest : (n : ℕ) → Shared list header file n → ((m : ℕ) → Shared list header file m → m ≤ n) → lineEnds (take n list) ≡ k
+record BegunEnds (list header : List ℕ) (file k : ℕ) : Type 0 where
+  place : ℕ
+  shared : Begun list header file place
+  ends : lineEnds (take place list) ≡ k
 
 -- a list's lines are those of its first j records and those behind them
 lines-front : (header : List ℕ) (file : ℕ) (t : List ℕ) (x : Exportable header file t) (j : ℕ) → j ≤ x .count
@@ -71,7 +63,7 @@ cut header file t x j n h l =
 
 -- a list that begins with the lines of an export's first m records shares them
 ahead-shared : (header : List ℕ) (file : ℕ) (t : List ℕ) (x : Exportable header file t) (m : ℕ) → m ≤ x .count → (list rest : List ℕ)
-    → list ≡ (firstLine ++ linesOf t m) ++ rest → SharedEnds list header file (suc m)
+    → list ≡ (firstLine ++ linesOf t m) ++ rest → BegunEnds list header file (suc m)
 ahead-shared header file t x m few list rest begun =
     record {
       place = length (firstLine ++ linesOf t m);
@@ -131,7 +123,7 @@ module _ (list header : List ℕ) (file : ℕ) (bytes : Bytes header) (fits : fi
       go true t f = over t (firstBad (holdsAt list header file) count count 1) refl f
 
   -- No shared beginning holds more line ends.
-  module _ (n : ℕ) (s : Shared list header file n) where
+  module _ (n : ℕ) (s : Begun list header file n) where
     counted : countOf header ≡ s .exportable .count
     counted = given.counted header file (s .table) (s .exportable)
 
@@ -181,7 +173,7 @@ module _ (list header : List ℕ) (file : ℕ) (bytes : Bytes header) (fits : fi
           (sound-same (tableSaid list header) (s .table) (headerOf header) file k block-is ∙ r)
           also (rw (block-is k (omega arith)) (le-leb (count - k) (above 128 (publicAt (s .table) k)) e))
 
-    pub ends-most : (k : ℕ) → firstWrong list header file ≡ Bad k → lineEnds (take n list) ≤ k
+    ends-most : (k : ℕ) → firstWrong list header file ≡ Bad k → lineEnds (take n list) ≤ k
     ends-most k e = wrong-ways k e (lineEnds (take n list) ≤ k) none one past
       where
         none : isTitled list ≡ false → k ≡ 0 → lineEnds (take n list) ≤ k
@@ -227,7 +219,7 @@ module _ (list header : List ℕ) (file : ℕ) (bytes : Bytes header) (fits : fi
 
   -- One holds so many.
   module _ (m : ℕ) (few : m ≤ count) (each : (k : ℕ) → 1 ≤ k → k ≤ m → holdsAt list header file k ≡ true) where
-    none-shared : SharedEnds list header file 0
+    none-shared : BegunEnds list header file 0
     unfolding lineEnds
     none-shared =
         record {
@@ -242,7 +234,7 @@ module _ (list header : List ℕ) (file : ℕ) (bytes : Bytes header) (fits : fi
           ends = refl;
         }
 
-    lines-shared : isTitled list ≡ true → SharedEnds list header file (suc m)
+    lines-shared : isTitled list ≡ true → BegunEnds list header file (suc m)
     lines-shared title =
         ahead-shared header file (continued.table list header file m bytes fits few each) (continued.exportable list header file m bytes fits few each) m
         (omega (
@@ -253,58 +245,53 @@ module _ (list header : List ℕ) (file : ℕ) (bytes : Bytes header) (fits : fi
         (drop (placeOf list m) list)
         (continued.begins list header file m bytes fits few each title)
 
-  pub ends-some : (k : ℕ) → firstWrong list header file ≡ Bad k → SharedEnds list header file k
-  ends-some k e = wrong-ways k e (SharedEnds list header file k) none one past
+  ends-some : (k : ℕ) → firstWrong list header file ≡ Bad k → BegunEnds list header file k
+  ends-some k e = wrong-ways k e (BegunEnds list header file k) none one past
     where
-      none : isTitled list ≡ false → k ≡ 0 → SharedEnds list header file k
+      none : isTitled list ≡ false → k ≡ 0 → BegunEnds list header file k
       none f q = rw q (none-shared 0 (omega arith) (λ j a b. absurd (omega arith)))
 
-      one : isTitled list ≡ true → FirstNot (holdsAt list header file) count 1 k → SharedEnds list header file k
+      one : isTitled list ≡ true → FirstNot (holdsAt list header file) count 1 k → BegunEnds list header file k
       one f first =
           let q : suc (k - 1) ≡ k = omega (arith, first .from) in
           rw q at (lines-shared (k - 1) (omega (arith, first .to)) (λ j a b. first .before j a (omega (arith, first .from))) f)
 
-      past : isTitled list ≡ true → ((j : ℕ) → 1 ≤ j → j ≤ count → holdsAt list header file j ≡ true) → k ≡ count + 1 → SharedEnds list header file k
+      past : isTitled list ≡ true → ((j : ℕ) → 1 ≤ j → j ≤ count → holdsAt list header file j ≡ true) → k ≡ count + 1 → BegunEnds list header file k
       past f each q = let z : k ≡ suc count = omega arith in rw z (lines-shared count (omega arith) each f)
 
-  -- So the line that is named is the one behind the longest.
+  -- So the line that is named is the first that no export could hold there.
   pub first-line : (k : ℕ) → firstWrong list header file ≡ Bad k → NamedLine list header file k
-  first-line k e =
-      record {
-        some = ends-some k e;
-        most = λ n s. ends-most n s k e;
-        longest = λ n s far.
-            let o : SharedEnds list header file k = ends-some k e in
-            omega (arith, o .ends, ends-most n s k e, ends-more list (o .place) n (far (o .place) (o .shared)));
-      }
+  first-line k e = record { some = out (ends-some k e); most = λ n s. ends-most n (into n s) k e }
+    where
+      into : (n : ℕ) → Shared list header file n → Begun list header file n
+      into n s =
+          let o : listOf (s .export .table) ≡ s .whole = list-of (s .whole) header file (s .export) in
+          record {
+            table = s .export .table;
+            exportable = exportable-of (s .whole) header file (s .export);
+            in-list = s .in-list;
+            in-export = rw o (s .in-export);
+            alike = rw o (s .alike);
+          }
 
--- Refusal 14 of an import, with the line's number.
-pub refused-line : (list header : List ℕ) (file : ℕ) (area : List ℕ) (line : ℕ) → Bytes header → imported list header file area .said ≡ Refused 14 line
-    → (k : ℕ) × (line ≡ k + 1) × NamedLine list header file k
-unfolding imported writing
-refused-line list header file area line bytes e = fits (fitHeader header) refl e
-  where
-    number : (a b v w : ℕ) → Refused a v ≡ Refused b w → a ≡ b
-    number a b v w g = cc
+      out : BegunEnds list header file k → SharedEnds list header file k
+      out o =
+          let b : Begun list header file (o .place) = o .shared in
+          record {
+            place = o .place;
+            shared = record {
+              whole = listOf (b .table);
+              export = export-of (listOf (b .table)) header file (b .table) (b .exportable) refl;
+              in-list = b .in-list;
+              in-export = b .in-export;
+              alike = b .alike;
+            };
+            ends = o .ends;
+          }
 
-    value : (a b v w : ℕ) → Refused a v ≡ Refused b w → w ≡ v
-    value a b v w g = cc
-
-    never : (n : ℕ) → Written n ≡ Refused 14 line → (k : ℕ) × (line ≡ k + 1) × NamedLine list header file k
-    never n g = let z : _≡_ {A = ℕ} 0 1 = cc in absurd (omega arith)
-
-    short : (w : List ℕ) (x : Bool) → cond x (refusing area 15 0) (came (Written (length w)) (over w area)) .said ≡ Refused 14 line
-        → (k : ℕ) × (line ≡ k + 1) × NamedLine list header file k
-    short w true g = absurd (omega (arith, number 15 14 0 line g))
-    short w false g = never (length w) g
-
-    past : fitHeader header ≡ true → (c : Checked) → firstWrong list header file ≡ c → importPast list header area c .said ≡ Refused 14 line
-        → (k : ℕ) × (line ≡ k + 1) × NamedLine list header file k
-    past f (Sound n) w g = short (tableSaid list header) (ltb (length area) (length (tableSaid list header))) g
-    past f (Bad k) w g = (k, value 14 14 (k + 1) line g, first-line list header file bytes f k w)
-
-    fits : (x : Bool) → fitHeader header ≡ x
-        → cond x (importPast list header area (firstWrong list header file)) (refusing area 5 0) .said ≡ Refused 14 line
-        → (k : ℕ) × (line ≡ k + 1) × NamedLine list header file k
-    fits false f g = absurd (omega (arith, number 5 14 0 line g))
-    fits true f g = past f (firstWrong list header file) refl g
+-- There is one such line.
+pub named-once : (list header : List ℕ) (file j k : ℕ) → NamedLine list header file j → NamedLine list header file k → j ≡ k
+named-once list header file j k x y =
+    let a : lineEnds (take (x .some .place) list) ≤ k = y .most (x .some .place) (x .some .shared) in
+    let b : lineEnds (take (y .some .place) list) ≤ j = x .most (y .some .place) (y .some .shared) in
+    omega (arith, x .some .ends, y .some .ends)

@@ -1,9 +1,11 @@
 pub mod Continued
 pub mod Ends
 pub mod Exactly
+pub mod Exports
 pub mod FirstLine
 pub mod Fresh
 pub mod Lines
+pub mod Longest
 pub mod Outcomes
 pub mod Refusing
 pub mod Words

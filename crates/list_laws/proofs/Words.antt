@@ -1,16 +1,19 @@
 -- How firm the promises of export and import are: they leave one outcome for each input, and out of the word the caller reads what came of it.
-use Rattle.octets.specs.Standard.{ℕ, zero, suc, _+_, _*_, _<_, _≤_, Bool, true, false, cond, _≡_, refl, sym, _∙_, _≢_, arith, eqb, eq-eqb, ne-eqb}
-use Rattle.octets.specs.Standard.{List, length, length-append}
+use Rattle.octets.specs.Standard.{ℕ, zero, suc, _+_, _*_, _<_, _≤_, Bool, true, false, cond, _≡_, refl, sym, _∙_, ap, _≢_, arith, eqb, ltb, eq-eqb, ne-eqb}
+use Rattle.octets.specs.Standard.{le-ltb, List, _++_, length, length-append, take, drop}
+use Rattle.octets.specs.Run.{over}
+use Rattle.octets.proofs.Numbers.{Bytes}
 use Rattle.record.specs.Fields.{countOf, editionOf}
 use Rattle.blocks.specs.Blocks.{blockOf}
 use Rattle.blocks.specs.declared.Checked.{Checked}
 use Rattle.blocks.specs.declared.Checked.the-variants.{Sound, Bad}
+use Rattle.blocks.proofs.First.{FirstNot, bad-says}
 use Rattle.table.specs.Check.{checkTable}
 use Rattle.table.specs.SoundTable.{SoundTable}
 use Rattle.table.proofs.Sound.{sound-few}
 use Rattle.rows.specs.Row.{rowOf, lineOf}
-use Rattle.listing.specs.ListOf.{firstLine, linesOf, listOf, firstUnlisted}
-use Rattle.listing.specs.Export.{refusing, exportPast, exportSound, exportChecked, exported}
+use Rattle.listing.specs.ListOf.{firstLine, linesOf, listOf, listableAt, firstUnlisted}
+use Rattle.listing.specs.Export.{AfterList, came, refusing, writing, exportPast, exportSound, exportChecked, exported}
 use Rattle.listing.specs.declared.Listed.{Listed}
 use Rattle.listing.specs.declared.Listed.the-variants.{Written, Refused}
 use Rattle.listing.proofs.Lists.{first-length, list-is, short-at}
@@ -19,13 +22,12 @@ use Rattle.importing.specs.Import.{fitHeader, importPast, imported}
 use Rattle.judging.proofs.Fitting.{is-fit}
 use Rattle.billing.proofs.Ways.{line-few}
 use Rattle.ndushavire.specs.Word.{word, listWord}
-use Rattle.ndushavire.specs.Reads.{numberIn, ReadsList}
+use Rattle.ndushavire.specs.Reads.{numberIn, valueIn, ReadsList}
 use Rattle.ndushavire.specs.Promise.{ExportPromise, ImportPromise}
 use Rattle.ndushavire.proofs.Parts.{parts}
 use Rattle.demands.proofs.Firm.{check-most}
-use Rattle.list_laws.specs.Refusals.{ExportRefuses, unsound, older, unlisted, short, ImportRefuses, unfit, wrong, narrow}
-use Rattle.list_laws.proofs.Outcomes.{never, size-is, writing-wrote}
-use Rattle.list_laws.proofs.Refusing.{export-refuses, import-refuses}
+use Rattle.list_laws.proofs.Exactly.{gives-back}
+use Rattle.list_laws.proofs.Outcomes.{size-is}
 
 -- Any two outcomes that meet the promise are equal: the word, and the area.
 pub export-unique : (table profile list : List ℕ) (r s : ℕ) (x y : List ℕ) → ExportPromise table profile list r x → ExportPromise table profile list s y
@@ -36,14 +38,16 @@ pub import-unique : (list header profile table : List ℕ) (r s : ℕ) (x y : Li
     → ImportPromise list header profile table s y → (r ≡ s) × (x ≡ y)
 import-unique list header profile table r s x y p q = (p .word-is ∙ sym (q .word-is), p .table-is ∙ sym (q .table-is))
 
--- What is put into a word is read out of it.
-written-reads : (bytes : ℕ) → bytes < 4294967296 → ReadsList (Written bytes) (listWord (Written bytes))
-written-reads bytes h =
+-- What is put into a word is read out of it, if the value stays below 2^32 and a refusal's number is none.
+abbrev Readable : Listed → Type 0
+Readable (Written bytes) = bytes < 4294967296
+Readable (Refused number value) = (1 ≤ number) × (value < 4294967296)
+
+reads : (l : Listed) → Readable l → ReadsList l (listWord l)
+reads (Written bytes) h =
     let p = parts 0 0 bytes (omega arith) h in
     record { number = p .number-is; place = p .place-is; value = p .value-is; list = rw (eq-eqb (numberIn (word 0 0 bytes)) 0 (p .number-is), p .value-is) }
-
-refused-reads : (number value : ℕ) → 1 ≤ number → value < 4294967296 → ReadsList (Refused number value) (listWord (Refused number value))
-refused-reads number value l h =
+reads (Refused number value) (l, h) =
     let p = parts number 0 value (omega arith) h in
     let other : numberIn (word number 0 value) ≢ 0 = λ q. omega (arith, p .number-is, q) in
     record {
@@ -65,77 +69,85 @@ lines-most t count s (suc k) h =
       short-at t count s (suc k) (omega arith) h {b = blockOf t (suc k)} refl,
     )
 
-list-most : (t : List ℕ) (count : ℕ) → SoundTable t count → length (listOf t) ≤ 4194425
-list-most t count s =
+list-few : (t : List ℕ) (count : ℕ) → SoundTable t count → length (listOf t) ≤ 4194425
+list-few t count s =
     rw (list-is t count s)
     (omega (arith, first-length, length-append firstLine (linesOf t count), lines-most t count s count (omega arith), sound-few t count s))
 
-module _ (t : List ℕ) (file : ℕ) (area : List ℕ) where
-  export-wrote : (n : ℕ) → exported t file area .said ≡ Written n → n ≤ 4194425
-  unfolding exported exportChecked exportSound exportPast
-  export-wrote n e = checked (checkTable t file) refl e
-    where
-      names : (count : ℕ) → SoundTable t count → (c : Checked) → exportPast t area c .said ≡ Written n → n ≤ 4194425
-      names count s (Bad k) g = never 13 k n g
-      names count s (Sound c) g = omega (arith, writing-wrote area (listOf t) n g, list-most t count s)
+writing-readable : (area w : List ℕ) → length w < 4294967296 → Readable (writing area w .said)
+unfolding writing
+writing-readable area w h = go (ltb (length area) (length w))
+  where
+    go : (x : Bool) → Readable (cond x (refusing area 15 0) (came (Written (length w)) (over w area)) .said)
+    go true = (omega arith, omega arith)
+    go false = h
 
-      second : (count : ℕ) → SoundTable t count → (x : Bool) → cond x (exportPast t area (firstUnlisted t count)) (refusing area 5 0) .said ≡ Written n
-          → n ≤ 4194425
-      second count s false g = never 5 0 n g
-      second count s true g = names count s (firstUnlisted t count) g
+export-readable : (t : List ℕ) (file : ℕ) (area : List ℕ) → Readable (exported t file area .said)
+unfolding exported exportChecked exportSound exportPast firstUnlisted
+export-readable t file area = checked (checkTable t file) refl
+  where
+    names : (count : ℕ) → SoundTable t count → (c : Checked) → firstUnlisted t count ≡ c → Readable (exportPast t area c .said)
+    names count s (Bad k) e =
+        let f : FirstNot (listableAt t) count 1 k = bad-says (listableAt t) count count 1 k e in
+        (omega arith, omega (arith, f .to, sound-few t count s))
+    names count s (Sound c) e = writing-readable area (listOf t) (omega (arith, list-few t count s))
 
-      checked : (c : Checked) → checkTable t file ≡ c → exportChecked t area c .said ≡ Written n → n ≤ 4194425
-      checked (Bad k) s g = never 5 k n g
-      checked (Sound count) s g = second count (record { file = file; checked = s }) (eqb (editionOf (blockOf t 0)) 2) g
+    second : (count : ℕ) → SoundTable t count → (x : Bool) → Readable (cond x (exportPast t area (firstUnlisted t count)) (refusing area 5 0) .said)
+    second count s false = (omega arith, omega arith)
+    second count s true = names count s (firstUnlisted t count) refl
 
-  count-most : (count : ℕ) → checkTable t file ≡ Sound count → count ≤ 4096
-  count-most count e = rw e at (check-most t file)
+    checked : (c : Checked) → checkTable t file ≡ c → Readable (exportChecked t area c .said)
+    checked (Bad k) e = let m : k ≤ 4096 = rw e at (check-most t file) in (omega arith, omega arith)
+    checked (Sound count) e = second count (record { file = file; checked = e }) (eqb (editionOf (blockOf t 0)) 2)
 
-  block-most : (k : ℕ) → checkTable t file ≡ Bad k → k ≤ 4096
-  block-most k e = rw e at (check-most t file)
+import-readable : (list header : List ℕ) (file : ℕ) (area : List ℕ) → Readable (imported list header file area .said)
+unfolding imported
+import-readable list header file area = fits (fitHeader header) refl
+  where
+    past : fitHeader header ≡ true → (c : Checked) → firstWrong list header file ≡ c → Readable (importPast list header area c .said)
+    past f (Bad k) e = (omega arith, omega (arith, line-few list header file (firstWrong list header file) refl k (is-fit header refl f) e))
+    past f (Sound c) e =
+        let few : countOf header ≤ 4096 = is-fit header refl f .few in
+        writing-readable area (tableSaid list header) (omega (arith, size-is list header f))
 
-  export-reads : (l : Listed) → exported t file area .said ≡ l → ReadsList l (listWord l)
-  export-reads (Written n) e = written-reads n (omega (arith, export-wrote n e))
-  export-reads (Refused number value) e = go number value (export-refuses t file area number value e)
-    where
-      go : (a b : ℕ) → ExportRefuses t file area a b → ReadsList (Refused a b) (listWord (Refused a b))
-      go a b (unsound k s) = refused-reads 5 k (omega arith) (omega (arith, block-most k s))
-      go a b (older count s n) = refused-reads 5 0 (omega arith) (omega arith)
-      go a b (unlisted count k f u) = refused-reads 13 k (omega arith) (omega (arith, u .to, count-most count (f .checked)))
-      go a b (short count f l h) = refused-reads 15 0 (omega arith) (omega arith)
-
-module _ (list header : List ℕ) (file : ℕ) (area : List ℕ) where
-  import-wrote : (n : ℕ) → imported list header file area .said ≡ Written n → n ≤ 2097664
-  unfolding imported
-  import-wrote n e = fits (fitHeader header) refl e
-    where
-      past : fitHeader header ≡ true → (c : Checked) → importPast list header area c .said ≡ Written n → n ≤ 2097664
-      past f (Bad k) g = never 14 (k + 1) n g
-      past f (Sound c) g =
-          let few : countOf header ≤ 4096 = is-fit header refl f .few in
-          omega (arith, writing-wrote area (tableSaid list header) n g, size-is list header f, few)
-
-      fits : (x : Bool) → fitHeader header ≡ x → cond x (importPast list header area (firstWrong list header file)) (refusing area 5 0) .said ≡ Written n
-          → n ≤ 2097664
-      fits false f g = never 5 0 n g
-      fits true f g = past f (firstWrong list header file) g
-
-  import-reads : (l : Listed) → imported list header file area .said ≡ l → ReadsList l (listWord l)
-  import-reads (Written n) e = written-reads n (omega (arith, import-wrote n e))
-  import-reads (Refused number value) e = go number value (import-refuses list header file area number value e)
-    where
-      go : (a b : ℕ) → ImportRefuses list header file area a b → ReadsList (Refused a b) (listWord (Refused a b))
-      go a b (unfit f) = refused-reads 5 0 (omega arith) (omega arith)
-      go a b (wrong k f w) =
-          refused-reads 14 (k + 1) (omega arith) (omega (arith, line-few list header file (firstWrong list header file) refl k (is-fit header refl f) w))
-      go a b (narrow count f w h) = refused-reads 15 0 (omega arith) (omega arith)
+    fits : (x : Bool) → fitHeader header ≡ x → Readable (cond x (importPast list header area (firstWrong list header file)) (refusing area 5 0) .said)
+    fits false f = (omega arith, omega arith)
+    fits true f = past f (firstWrong list header file) refl
 
 -- What each call is promised to return is read back.
 pub export-said : (table profile list : List ℕ) {r : ℕ} {list' : List ℕ} → ExportPromise table profile list r list'
     → ReadsList (exported table (length profile) list .said) r
-export-said table profile list p = rw (p .word-is) (export-reads table (length profile) list (exported table (length profile) list .said) refl)
+export-said table profile list p =
+    rw (p .word-is) (reads (exported table (length profile) list .said) (export-readable table (length profile) list))
 
 pub import-said : (list header profile table : List ℕ) {r : ℕ} {table' : List ℕ} → ImportPromise list header profile table r table'
     → ReadsList (imported list header (length profile) table .said) r
 import-said list header profile table p =
-    rw (p .word-is) (import-reads list header (length profile) table (imported list header (length profile) table .said) refl)
+    rw (p .word-is) (reads (imported list header (length profile) table .said) (import-readable list header (length profile) table))
+
+-- "Import of an exported list, with the same header block and profile file, gives back the table's bytes": over the two calls, by the words that they return.
+-- The list is as many bytes as export says; what is past the table stays.
+pub there-and-back : (table profile area : List ℕ) (r : ℕ) (area' : List ℕ) → Bytes table → ExportPromise table profile area r area' → numberIn r ≡ 0
+    → (other : List ℕ) (s : ℕ) (other' : List ℕ) → length table ≤ length other
+    → ImportPromise (take (valueIn r) area') (blockOf table 0) profile other s other' → (s ≡ length table) × (other' ≡ table ++ drop (length table) other)
+unfolding writing over
+there-and-back table profile area r area' bytes p zero-number other s other' room q =
+    went (exported table (length profile) area .said) refl (export-said table profile area p) (export-readable table (length profile) area)
+  where
+    file : ℕ
+    file = length profile
+
+    went : (l : Listed) → exported table (length profile) area .said ≡ l → ReadsList (exported table (length profile) area .said) r
+        → Readable (exported table (length profile) area .said) → (s ≡ length table) × (other' ≡ table ++ drop (length table) other)
+    went (Refused number value) e w h =
+        let n : numberIn r ≡ number = rw e at (w .number) in
+        let m : (1 ≤ number) × (value < 4294967296) = rw e at h in
+        absurd (omega (arith, m .0))
+    went (Written n) e w h =
+        let v : valueIn r ≡ n = rw e at (w .value) in
+        let x : exported table (length profile) area ≡ came (Written n) area' = rw (p .list-is, ← e) in
+        let g : imported (take n area') (blockOf table 0) (length profile) other ≡ writing other table =
+        gives-back table (length profile) area n area' bytes x other in
+        let o : imported (take (valueIn r) area') (blockOf table 0) (length profile) other ≡ came (Written (length table)) (table ++ drop (length table) other) =
+        rw v (g ∙ rw (le-ltb (length other) (length table) room)) in
+        (omega (arith, q .word-is ∙ ap (λ (a : AfterList). listWord (a .said)) o), q .table-is ∙ ap (λ (a : AfterList). a .area) o)

@@ -132,7 +132,7 @@ fn write(list: &mut [u8], t: &[u8], count: usize) -> Listed
     Listed::Written(size as u32)
 }
 
-// Over the first record with a name that cannot be listed.
+// What follows from the first record with a name that cannot be listed.
 fn export_past(list: &mut [u8], t: &[u8], count: usize, names: Checked) -> Listed
     requires { ⌜ SoundTable (now t) count ⌝ }
     ensures { λ r. ⌜ came r (now (list .exit)) ≡ exportPast (now (t .entry)) (now (list .entry)) names ⌝ }

@@ -6,7 +6,7 @@ use Rattle.quoting.proofs.Names.{quoted-length}
 use Rattle.quoting.proofs.Reading.{taken-written}
 use Rattle.quoting.proofs.Reading as name
 use Rattle.rows.specs.Row.{Row, numbersLine, lineOf}
-use Rattle.rows.specs.RowIn.{andThen, nameAfter, numbersIn, most, secondAt, thirdAt, numbersAt, rowIn, rowSize}
+use Rattle.rows.specs.RowIn.{andThen, nameAfter, numbersIn, limits, secondAt, thirdAt, numbersAt, rowIn, rowSize}
 use Rattle.quoting.specs.Quoted.{nameIn}
 use Rattle.rows.specs.Block.{blockFrom}
 use Rattle.rows.proofs.Lines as line
@@ -20,19 +20,19 @@ withNumbers r ns = record { public = r .public; private = r .private; server = r
 
 row-parts : (s : List ℕ)
     → rowIn s ≡ andThen (namesIn s)
-    (λ (r : Row). andThen (numbersIn most (drop (numbersAt (r .public) (r .private) (r .server)) s)) (λ (ns : List ℕ). some (withNumbers r ns)))
+    (λ (r : Row). andThen (numbersIn limits (drop (numbersAt (r .public) (r .private) (r .server)) s)) (λ (ns : List ℕ). some (withNumbers r ns)))
 unfolding rowIn namesIn
 row-parts s = first (nameIn 128 s)
   where
     on : Row → Option Row
-    on r = andThen (numbersIn most (drop (numbersAt (r .public) (r .private) (r .server)) s)) (λ (ns : List ℕ). some (withNumbers r ns))
+    on r = andThen (numbersIn limits (drop (numbersAt (r .public) (r .private) (r .server)) s)) (λ (ns : List ℕ). some (withNumbers r ns))
 
     third : List ℕ → List ℕ → List ℕ → Option Row
     third a b c = some (record { public = a; private = b; server = c; numbers = [] })
 
     last : (a b : List ℕ) (o : Option (List ℕ))
         → andThen o
-        (λ (c : List ℕ). andThen (numbersIn most (drop (numbersAt a b c) s))
+        (λ (c : List ℕ). andThen (numbersIn limits (drop (numbersAt a b c) s))
         (λ (ns : List ℕ). some (record { public = a; private = b; server = c; numbers = ns })))
         ≡ andThen (andThen o (third a b)) on
     last a b none = refl
@@ -40,7 +40,7 @@ row-parts s = first (nameIn 128 s)
 
     second : (a : List ℕ) (o : Option (List ℕ))
         → andThen o
-        (λ (b : List ℕ). andThen (nameAfter 96 (drop (thirdAt a b) s)) (λ (c : List ℕ). andThen (numbersIn most (drop (numbersAt a b c) s)) (λ (ns : List ℕ).
+        (λ (b : List ℕ). andThen (nameAfter 96 (drop (thirdAt a b) s)) (λ (c : List ℕ). andThen (numbersIn limits (drop (numbersAt a b c) s)) (λ (ns : List ℕ).
         some (record { public = a; private = b; server = c; numbers = ns }))))
         ≡ andThen (andThen o (λ (b : List ℕ). andThen (nameAfter 96 (drop (thirdAt a b) s)) (third a b))) on
     second a none = refl
@@ -49,7 +49,7 @@ row-parts s = first (nameIn 128 s)
     first : (o : Option (List ℕ))
         → andThen o
         (λ (a : List ℕ). andThen (nameAfter 128 (drop (secondAt a) s)) (λ (b : List ℕ). andThen (nameAfter 96 (drop (thirdAt a b) s)) (λ (c : List ℕ).
-        andThen (numbersIn most (drop (numbersAt a b c) s)) (λ (ns : List ℕ). some (record { public = a; private = b; server = c; numbers = ns })))))
+        andThen (numbersIn limits (drop (numbersAt a b c) s)) (λ (ns : List ℕ). some (record { public = a; private = b; server = c; numbers = ns })))))
         ≡ andThen
         (andThen o
         (λ (a : List ℕ). andThen (nameAfter 128 (drop (secondAt a) s)) (λ (b : List ℕ). andThen (nameAfter 96 (drop (thirdAt a b) s)) (third a b)))) on
@@ -118,26 +118,26 @@ row-taken s r ns e =
     rw (p, q, t)
 
 -- The numbers that an array holds fit their bytes.
-fits-sized : (ns : List ℕ) → line.fits most ns ≡ true → Sized ns
+fits-sized : (ns : List ℕ) → line.fits limits ns ≡ true → Sized ns
 fits-sized ns e = record {
-  count = fits-length most ns e;
-  state = fits-at most ns e 0;
-  pending = fits-at most ns e 1;
-  barred = fits-at most ns e 2;
-  services = fits-at most ns e 3;
-  roaming = fits-at most ns e 4;
-  mandatory = fits-at most ns e 5;
-  optional = fits-at most ns e 10;
+  count = fits-length limits ns e;
+  state = fits-at limits ns e 0;
+  pending = fits-at limits ns e 1;
+  barred = fits-at limits ns e 2;
+  services = fits-at limits ns e 3;
+  roaming = fits-at limits ns e 4;
+  mandatory = fits-at limits ns e 5;
+  optional = fits-at limits ns e 10;
 }
 
-pub numbers-sized : (s after : List ℕ) (at end : ℕ) → end ≡ endOf at (numbersIn most (drop at s)) → (end ≡ 0 → ⊥) → Held (numbersIn most (drop at s)) after
+pub numbers-sized : (s after : List ℕ) (at end : ℕ) → end ≡ endOf at (numbersIn limits (drop at s)) → (end ≡ 0 → ⊥) → Held (numbersIn limits (drop at s)) after
     → Sized after
 unfolding line.small
-numbers-sized s after at end e z h = go (numbersIn most (drop at s)) refl e
+numbers-sized s after at end e z h = go (numbersIn limits (drop at s)) refl e
   where
-    go : (o : Option (List ℕ)) → numbersIn most (drop at s) ≡ o → end ≡ endOf at o → Sized after
+    go : (o : Option (List ℕ)) → numbersIn limits (drop at s) ≡ o → end ≡ endOf at o → Sized after
     go none f g = absurd (z g)
-    go (some ns) f g = rw (h .numbers ns f) (fits-sized ns (line.numbers-read most (drop at s) ns refl f .within))
+    go (some ns) f g = rw (h .numbers ns f) (fits-sized ns (line.numbers-read limits (drop at s) ns refl f .within))
 
 -- The answer: no names, no numbers, or a block.
 module _ (s b : List ℕ) (issue k : ℕ) (n : Names) (e : n ≡ asNames (namesIn s)) where
@@ -154,11 +154,11 @@ module _ (s b : List ℕ) (issue k : ℕ) (n : Names) (e : n ≡ asNames (namesI
   pub nameless-block : n .numbers ≡ 0 → b ≡ blockOver issue k (rowIn s) b
   nameless-block z = nameless z .1
 
-  module _ (end : ℕ) (f : end ≡ endOf (n .numbers) (numbersIn most (drop (n .numbers) s))) (there : n .numbers ≡ 0 → ⊥) where
+  module _ (end : ℕ) (f : end ≡ endOf (n .numbers) (numbersIn limits (drop (n .numbers) s))) (there : n .numbers ≡ 0 → ⊥) where
     numberless : end ≡ 0 → (0 ≡ rowSize (rowIn s)) × (b ≡ blockOver issue k (rowIn s) b)
     numberless z = go (namesIn s) refl e
       where
-        pick : (r : Row) → namesIn s ≡ some r → n ≡ asNames (some r) → (o : Option (List ℕ)) → numbersIn most (drop (n .numbers) s) ≡ o
+        pick : (r : Row) → namesIn s ≡ some r → n ≡ asNames (some r) → (o : Option (List ℕ)) → numbersIn limits (drop (n .numbers) s) ≡ o
             → end ≡ endOf (n .numbers) o
             → (0 ≡ rowSize (rowIn s)) × (b ≡ blockOver issue k (rowIn s) b)
         pick r g h none p q =
@@ -168,7 +168,7 @@ module _ (s b : List ℕ) (issue k : ℕ) (n : Names) (e : n ≡ asNames (namesI
 
         go : (o : Option Row) → namesIn s ≡ o → n ≡ asNames o → (0 ≡ rowSize (rowIn s)) × (b ≡ blockOver issue k (rowIn s) b)
         go none g h = absurd (there (rw h))
-        go (some r) g h = pick r g h (numbersIn most (drop (n .numbers) s)) refl f
+        go (some r) g h = pick r g h (numbersIn limits (drop (n .numbers) s)) refl f
 
     pub numberless-size : end ≡ 0 → 0 ≡ rowSize (rowIn s)
     numberless-size z = numberless z .0
@@ -176,12 +176,12 @@ module _ (s b : List ℕ) (issue k : ℕ) (n : Names) (e : n ≡ asNames (namesI
     pub numberless-block : end ≡ 0 → b ≡ blockOver issue k (rowIn s) b
     numberless-block z = numberless z .1
 
-    module _ (ns y : List ℕ) (held : Held (numbersIn most (drop (n .numbers) s)) ns) (wrote : y ≡ blockFrom issue k (rowTaken s n ns))
+    module _ (ns y : List ℕ) (held : Held (numbersIn limits (drop (n .numbers) s)) ns) (wrote : y ≡ blockFrom issue k (rowTaken s n ns))
         (some-end : end ≡ 0 → ⊥) where
       row-whole : rowIn s ≡ some (rowTaken s n ns) × (end ≡ length (lineOf (rowTaken s n ns)))
       row-whole = go (namesIn s) refl e
         where
-          pick : (r : Row) → namesIn s ≡ some r → n ≡ asNames (some r) → (o : Option (List ℕ)) → numbersIn most (drop (n .numbers) s) ≡ o
+          pick : (r : Row) → namesIn s ≡ some r → n ≡ asNames (some r) → (o : Option (List ℕ)) → numbersIn limits (drop (n .numbers) s) ≡ o
               → end ≡ endOf (n .numbers) o
               → rowIn s ≡ some (rowTaken s n ns) × (end ≡ length (lineOf (rowTaken s n ns)))
           pick r g h none p q = absurd (some-end q)
@@ -194,7 +194,7 @@ module _ (s b : List ℕ) (issue k : ℕ) (n : Names) (e : n ≡ asNames (namesI
 
           go : (o : Option Row) → namesIn s ≡ o → n ≡ asNames o → rowIn s ≡ some (rowTaken s n ns) × (end ≡ length (lineOf (rowTaken s n ns)))
           go none g h = absurd (there (rw h))
-          go (some r) g h = pick r g h (numbersIn most (drop (n .numbers) s)) refl f
+          go (some r) g h = pick r g h (numbersIn limits (drop (n .numbers) s)) refl f
 
       pub whole-size : end ≡ rowSize (rowIn s)
       whole-size = rw (row-whole .0) (row-whole .1)

@@ -2,26 +2,22 @@
 use crate::Names;
 use decimals::Number;
 use quoting::Name;
+use record::subscriber::Record;
+use rows::COMMA;
+use rows::CR;
+use rows::LF;
 ghost use mathlib.Core.Path.{_≡_};
 ghost use Prim.Native.Nat.{_+_, _*_, _≤_};
 ghost use lib.ListN.{length, drop};
-ghost use Rattle.rows.specs.RowIn.{nameAfter, numberAfter, endsLine, numbersIn, most};
+ghost use Rattle.rows.specs.RowIn.{nameAfter, numberAfter, endsLine, numbersIn, limits};
 ghost use Rattle.parsing.specs.Parsed.{asNameAfter, asNumberAfter, namesIn, asNames, endOf, Held, Fitted};
 
-const COMMA: u8 = 44;
+const MOST_IDENTITY: usize = Record::MOST_IDENTITY as usize;
 
-// "CR LF"
-const CR: u8 = 13;
-
-const LF: u8 = 10;
-
-// The longest public and private identity, and the longest server name.
-const MOST_IDENTITY: usize = 128;
-
-const MOST_SERVER: usize = 96;
+const MOST_SERVER: usize = Record::MOST_SERVER as usize;
 
 // The greatest number that each field holds.
-const MOST: [usize; 18] = [
+const LIMITS: [usize; 18] = [
     255,
     1,
     1,
@@ -119,12 +115,12 @@ fn ends_line(s: &[u8], at: usize) -> bool
 // The numbers of a line, which begin at a place: the place behind the line, or 0.
 pub fn numbers(s: &[u8], at: usize, out: &mut [usize]) -> usize
     requires { ⌜ (at ≤ 712) × (length (now out) ≡ 18) ⌝ }
-    ensures { λ r. ⌜ (r ≡ endOf at (numbersIn most (drop at (now (s .entry))))) × Held (numbersIn most (drop at (now (s .entry)))) (now (out .exit)) ⌝ }
+    ensures { λ r. ⌜ (r ≡ endOf at (numbersIn limits (drop at (now (s .entry))))) × Held (numbersIn limits (drop at (now (s .entry)))) (now (out .exit)) ⌝ }
 {
     let mut p = at;
     let mut i = 0;
     while i < 18 {
-        let n = number_after(s, p, MOST[i]);
+        let n = number_after(s, p, LIMITS[i]);
         if n.size == 0 {
             return 0;
         }

@@ -17,7 +17,7 @@ use Rattle.record.specs.RecordBlock.{recordOf, soundRecord}
 use Rattle.record.specs.declared.header.Header.{Header}
 use Rattle.record.proofs.Tests.{RecordTests, record-says, Limits, limits-say, Zeros, rest-says}
 use Rattle.rows.specs.Row.{Row, numbersOf, rowOf}
-use Rattle.rows.specs.RowIn.{most}
+use Rattle.rows.specs.RowIn.{limits}
 use Rattle.rows.specs.Block.{padded, halfBytes, wordBytes, wordsBytes, frontBytes, namesBytes, restBytes, unsealed, blockFrom}
 use Rattle.rows.proofs.Lines.{fits, Fitting}
 use Rattle.rows.proofs.Pieces.{listed, part-listed, part-two, part-zeros, part-padded, padded-length, word-listed, half-listed, wordsFrom, words-part}
@@ -29,8 +29,8 @@ module _ (b : List ℕ) (k : ℕ) (h : Header) (file : ℕ) (size : length b ≡
   tests : RecordTests b k h file
   tests = record-says b k h file sound
 
-  limits : Limits (recordOf b)
-  limits = limits-say (recordOf b) (tests .limits)
+  named-limits : Limits (recordOf b)
+  named-limits = limits-say (recordOf b) (tests .limits)
 
   blank : Zeros b (recordOf b)
   blank = rest-says b (recordOf b) (tests .rest)
@@ -45,19 +45,19 @@ module _ (b : List ℕ) (k : ℕ) (h : Header) (file : ℕ) (size : length b ≡
       let word : wordBytes k ≡ listed b 4 4 = rw (← number) (word-listed b 4 bytes) in
       let z2 : getD b 2 0 ≡ 0 = zero-at b 2 4 (blank .blank) 2 (omega arith) (omega arith) in
       let z3 : getD b 3 0 ≡ 0 = zero-at b 2 4 (blank .blank) 3 (omega arith) (omega arith) in
-      let bits : getD b 9 0 % 2 + 2 * (getD b 9 0 / 2 % 2) + 4 * (getD b 9 0 / 4 % 2) ≡ getD b 9 0 = bits-made (getD b 9 0) (limits .bits) in
-      let p : length (publicOf b) ≡ getD b 13 0 = length-take-le (publicSize b) (drop 16 b) (omega (arith, length-drop 16 b, limits .public)) in
-      let q : length (privateOf b) ≡ getD b 14 0 = length-take-le (privateSize b) (drop 144 b) (omega (arith, length-drop 144 b, limits .private)) in
-      let r : length (serverOf b) ≡ getD b 15 0 = length-take-le (serverSize b) (drop 272 b) (omega (arith, length-drop 272 b, limits .server)) in
+      let bits : getD b 9 0 % 2 + 2 * (getD b 9 0 / 2 % 2) + 4 * (getD b 9 0 / 4 % 2) ≡ getD b 9 0 = bits-made (getD b 9 0) (named-limits .bits) in
+      let p : length (publicOf b) ≡ getD b 13 0 = length-take-le (publicSize b) (drop 16 b) (omega (arith, length-drop 16 b, named-limits .public)) in
+      let q : length (privateOf b) ≡ getD b 14 0 = length-take-le (privateSize b) (drop 144 b) (omega (arith, length-drop 144 b, named-limits .private)) in
+      let r : length (serverOf b) ≡ getD b 15 0 = length-take-le (serverSize b) (drop 272 b) (omega (arith, length-drop 272 b, named-limits .server)) in
       cc (part-listed b 0 16 (omega arith))
 
   names : namesBytes (publicOf b) (privateOf b) (serverOf b) ≡ take 352 (drop 16 b)
   unfolding namesBytes publicOf privateOf serverOf recordOf
   names =
       rw (
-        part-padded b 16 (publicSize b) 128 (limits .public) (omega arith) (blank .public),
-        part-padded b 144 (privateSize b) 128 (limits .private) (omega arith) (blank .private),
-        part-padded b 272 (serverSize b) 96 (limits .server) (omega arith) (blank .server),
+        part-padded b 16 (publicSize b) 128 (named-limits .public) (omega arith) (blank .public),
+        part-padded b 144 (privateSize b) 128 (named-limits .private) (omega arith) (blank .private),
+        part-padded b 272 (serverSize b) 96 (named-limits .server) (omega arith) (blank .server),
       )
       (sym (part-two b 16 128 224 ∙ ap (λ (l : List ℕ). take 128 (drop 16 b) ++ l) (part-two b 144 128 96)))
 
@@ -145,7 +145,7 @@ module _ (issue k : ℕ) (r : Row) (fitting : Fitting r) where
   tail = wordBytes issue ++ replicate 100 0
 
   eighteen : length ns ≡ 18
-  eighteen = fits-length most ns (fitting .numbers)
+  eighteen = fits-length limits ns (fitting .numbers)
 
   listed-numbers : listed ns 0 18 ≡ ns
   listed-numbers = sym (part-listed ns 0 18 (omega (arith, eighteen))) ∙ take-all 18 ns (omega (arith, eighteen))
@@ -251,8 +251,8 @@ module _ (issue k : ℕ) (r : Row) (fitting : Fitting r) where
   half-raw j h =
       be16-alike (sealed raw) (restBytes ns) (368 + j) j (λ i l. let e : 368 + j + i ≡ 368 + (j + i) = omega arith in rw e (rest-byte (j + i) (omega arith)))
 
-  at-most : (i : ℕ) → getD ns i 0 ≤ getD most i 0
-  at-most i = fits-at most ns (fitting .numbers) i
+  at-most : (i : ℕ) → getD ns i 0 ≤ getD limits i 0
+  at-most i = fits-at limits ns (fitting .numbers) i
 
   bits-raw : getD (sealed raw) 9 0 ≡ getD ns 1 0 + 2 * getD ns 2 0 + 4 * getD ns 3 0
   unfolding unsealed
@@ -327,7 +327,7 @@ module _ (b : List ℕ) (bytes : Bytes b) where
   unfolding fits
   fits-none = refl
 
-  pub numbers-fit : fits most (numbersOf b) ≡ true
+  pub numbers-fit : fits limits (numbersOf b) ≡ true
   unfolding numbersOf
   numbers-fit =
       byte-more (getD b 8 0) _ _ (byte-fits 8)

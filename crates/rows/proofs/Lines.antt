@@ -10,7 +10,7 @@ use Rattle.quoting.specs.Quoted.{listable, quoted, quotedSize, nameIn}
 use Rattle.quoting.proofs.Names.{quoted-length}
 use Rattle.quoting.proofs.Reading as name
 use Rattle.rows.specs.Row.{Row, numbersLine, lineOf}
-use Rattle.rows.specs.RowIn.{andThen, nameAfter, numberAfter, endsLine, numbersIn, most, secondAt, thirdAt, numbersAt, rowIn}
+use Rattle.rows.specs.RowIn.{andThen, nameAfter, numberAfter, endsLine, numbersIn, limits, secondAt, thirdAt, numbersAt, rowIn}
 
 -- Each number is at most so great, and 32 bits hold it.
 unfoldable pub fits : List ℕ → List ℕ → Bool
@@ -142,7 +142,7 @@ pub record Fitting (r : Row) : Type 0 where
   pub public-size : length (r .public) ≤ 128
   pub private-size : length (r .private) ≤ 128
   pub server-size : length (r .server) ≤ 96
-  pub numbers : fits most (r .numbers) ≡ true
+  pub numbers : fits limits (r .numbers) ≡ true
 
 -- What was written is read.
 pub read-written : (r : Row) (rest : List ℕ) → Fitting r → rowIn (lineOf r ++ rest) ≡ some r
@@ -169,7 +169,7 @@ read-written r rest f =
     let n3 : nameIn 96 (quoted c ++ t3) ≡ some c = name.read-written 96 c t3 (f .server) (f .server-size) (no-quote (r .numbers) rest) in
     let d3 : drop (numbersAt a b c) s ≡ t3 =
     sym (drop-drop (1 + quotedSize c) (thirdAt a b) s) ∙ ap (drop (1 + quotedSize c)) d2 ∙ behind 44 (quoted c) t3 (quotedSize c) (quoted-length c) in
-    let n4 : numbersIn most t3 ≡ some (r .numbers) = numbers-written most (r .numbers) rest (f .numbers) in
+    let n4 : numbersIn limits t3 ≡ some (r .numbers) = numbers-written limits (r .numbers) rest (f .numbers) in
     rw (whole, n1, d1, n2, d2, n3, d3, n4)
 
 -- What is read is what is written.
@@ -182,12 +182,12 @@ unfolding rowIn lineOf small
 written-read s r e = first (nameIn 128 s) refl e
   where
     last : (a b c ns : List ℕ) → nameIn 128 s ≡ some a → nameAfter 128 (drop (secondAt a) s) ≡ some b → nameAfter 96 (drop (thirdAt a b) s) ≡ some c
-        → numbersIn most (drop (numbersAt a b c) s) ≡ some ns → record { public = a; private = b; server = c; numbers = ns } ≡ r → ReadRow s r
+        → numbersIn limits (drop (numbersAt a b c) s) ≡ some ns → record { public = a; private = b; server = c; numbers = ns } ≡ r → ReadRow s r
     last a b c ns p1 p2 p3 p4 is =
         let q1 = name.written-read 128 s a p1 in
         let q2 = name-after 128 (drop (secondAt a) s) b p2 in
         let q3 = name-after 96 (drop (thirdAt a b) s) c p3 in
-        let q4 = numbers-read most (drop (numbersAt a b c) s) ns refl p4 in
+        let q4 = numbers-read limits (drop (numbersAt a b c) s) ns refl p4 in
         let row : Row = record { public = a; private = b; server = c; numbers = ns } in
         let d2 : drop (1 + quotedSize b) (drop (secondAt a) s) ≡ drop (thirdAt a b) s = drop-drop (1 + quotedSize b) (quotedSize a) s in
         let d3 : drop (1 + quotedSize c) (drop (thirdAt a b) s) ≡ drop (numbersAt a b c) s = drop-drop (1 + quotedSize c) (thirdAt a b) s in
@@ -221,21 +221,21 @@ written-read s r e = first (nameIn 128 s) refl e
         })
 
     fourth : (a b c : List ℕ) → nameIn 128 s ≡ some a → nameAfter 128 (drop (secondAt a) s) ≡ some b → nameAfter 96 (drop (thirdAt a b) s) ≡ some c
-        → (o : Option (List ℕ)) → numbersIn most (drop (numbersAt a b c) s) ≡ o
+        → (o : Option (List ℕ)) → numbersIn limits (drop (numbersAt a b c) s) ≡ o
         → andThen o (λ (ns : List ℕ). some (record { public = a; private = b; server = c; numbers = ns })) ≡ some r → ReadRow s r
     fourth a b c p1 p2 p3 none p4 g = let z : _≡_ {A = ℕ} 0 1 = cc in absurd (omega arith)
     fourth a b c p1 p2 p3 (some ns) p4 g = last a b c ns p1 p2 p3 p4 (Option·some-injective _ _ g)
 
     third : (a b : List ℕ) → nameIn 128 s ≡ some a → nameAfter 128 (drop (secondAt a) s) ≡ some b
         → (o : Option (List ℕ)) → nameAfter 96 (drop (thirdAt a b) s) ≡ o
-        → andThen o (λ (c : List ℕ). andThen (numbersIn most (drop (numbersAt a b c) s)) (λ (ns : List ℕ).
+        → andThen o (λ (c : List ℕ). andThen (numbersIn limits (drop (numbersAt a b c) s)) (λ (ns : List ℕ).
         some (record { public = a; private = b; server = c; numbers = ns }))) ≡ some r → ReadRow s r
     third a b p1 p2 none p3 g = let z : _≡_ {A = ℕ} 0 1 = cc in absurd (omega arith)
-    third a b p1 p2 (some c) p3 g = fourth a b c p1 p2 p3 (numbersIn most (drop (numbersAt a b c) s)) refl g
+    third a b p1 p2 (some c) p3 g = fourth a b c p1 p2 p3 (numbersIn limits (drop (numbersAt a b c) s)) refl g
 
     second : (a : List ℕ) → nameIn 128 s ≡ some a → (o : Option (List ℕ)) → nameAfter 128 (drop (secondAt a) s) ≡ o
         → andThen o
-        (λ (b : List ℕ). andThen (nameAfter 96 (drop (thirdAt a b) s)) (λ (c : List ℕ). andThen (numbersIn most (drop (numbersAt a b c) s)) (λ (ns : List ℕ).
+        (λ (b : List ℕ). andThen (nameAfter 96 (drop (thirdAt a b) s)) (λ (c : List ℕ). andThen (numbersIn limits (drop (numbersAt a b c) s)) (λ (ns : List ℕ).
         some (record { public = a; private = b; server = c; numbers = ns })))) ≡ some r → ReadRow s r
     second a p1 none p2 g = let z : _≡_ {A = ℕ} 0 1 = cc in absurd (omega arith)
     second a p1 (some b) p2 g = third a b p1 p2 (nameAfter 96 (drop (thirdAt a b) s)) refl g
@@ -243,7 +243,7 @@ written-read s r e = first (nameIn 128 s) refl e
     first : (o : Option (List ℕ)) → nameIn 128 s ≡ o
         → andThen o
         (λ (a : List ℕ). andThen (nameAfter 128 (drop (secondAt a) s)) (λ (b : List ℕ). andThen (nameAfter 96 (drop (thirdAt a b) s)) (λ (c : List ℕ).
-        andThen (numbersIn most (drop (numbersAt a b c) s)) (λ (ns : List ℕ). some (record { public = a; private = b; server = c; numbers = ns }))))) ≡ some r
+        andThen (numbersIn limits (drop (numbersAt a b c) s)) (λ (ns : List ℕ). some (record { public = a; private = b; server = c; numbers = ns }))))) ≡ some r
         → ReadRow s r
     first none p1 g = let z : _≡_ {A = ℕ} 0 1 = cc in absurd (omega arith)
     first (some a) p1 g = second a p1 (nameAfter 128 (drop (secondAt a) s)) refl g

@@ -12,7 +12,7 @@ use Rattle.octets.proofs.Runs.{past-zero}
 use Rattle.blocks.specs.Sealed.{negated, sealed}
 use Rattle.quoting.specs.Quoted.{isListed, listable}
 use Rattle.rows.specs.Row.{Row}
-use Rattle.rows.specs.RowIn.{most}
+use Rattle.rows.specs.RowIn.{limits}
 use Rattle.rows.specs.Block.{padded, halfBytes, wordBytes, wordsBytes, frontBytes, namesBytes, restBytes, unsealed, blockFrom}
 use Rattle.rows.proofs.Lines.{Fitting}
 use Rattle.rows.proofs.Blocks.{fits-at}
@@ -105,8 +105,8 @@ said-bytes issue k r f = sealed-bytes (unsealed issue k r) whole
     ns : List ℕ
     ns = r .numbers
 
-    least : (i : ℕ) → getD ns i 0 ≤ getD most i 0
-    least i = fits-at most ns (f .numbers) i
+    least : (i : ℕ) → getD ns i 0 ≤ getD limits i 0
+    least i = fits-at limits ns (f .numbers) i
 
     front : Octets (frontBytes k ns (length (r .public)) (length (r .private)) (length (r .server)))
     front =

@@ -44,7 +44,7 @@ unsealed issue k r =
 unfoldable pub blockFrom : ℕ → ℕ → Row → List ℕ
 blockFrom issue k r = sealed (unsealed issue k r)
 
--- a line that is none says a block of zeros, which is no record
+-- where no line of a list stands, a block of zeros is said, which is no record
 abbrev pub blockSaid : ℕ → ℕ → Option Row → List ℕ
 blockSaid issue k none = replicate 512 0
 blockSaid issue k (some r) = blockFrom issue k r

@@ -30,8 +30,8 @@ numbersIn [] s = cond (endsLine s) (some []) none
 numbersIn (m ∷ ms) s = andThen (numberAfter m s) (λ (v : ℕ). andThen (numbersIn ms (drop (1 + digitCount v) s)) (λ (vs : List ℕ). some (v ∷ vs)))
 
 -- what fits the field of each number: a byte, a bit, 32 bits, 16 bits
-abbrev pub most : List ℕ
-most =
+abbrev pub limits : List ℕ
+limits =
     255 ∷ 1 ∷ 1 ∷ 1 ∷ 255 ∷ 255 ∷ 4294967295 ∷ 4294967295 ∷ 4294967295 ∷ 4294967295 ∷ 255 ∷ 4294967295 ∷ 4294967295 ∷ 4294967295 ∷ 4294967295 ∷ 4294967295
     ∷ 65535 ∷ 65535 ∷ []
 
@@ -51,7 +51,7 @@ rowIn s =
     andThen (nameIn 128 s) (λ (a : List ℕ).
     andThen (nameAfter 128 (drop (secondAt a) s)) (λ (b : List ℕ).
     andThen (nameAfter 96 (drop (thirdAt a b) s)) (λ (c : List ℕ).
-    andThen (numbersIn most (drop (numbersAt a b c) s)) (λ (ns : List ℕ).
+    andThen (numbersIn limits (drop (numbersAt a b c) s)) (λ (ns : List ℕ).
     some (record { public = a; private = b; server = c; numbers = ns })))))
 
 -- how long the line of a row is, none where there is no row

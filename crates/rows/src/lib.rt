@@ -12,12 +12,12 @@ ghost use Rattle.rows.specs.Row.{rowOf, lineOf};
 ghost use Rattle.rows.specs.Written.{numberBytes, numberSize, numbersBytes, statesOf, wordsAt, profileNumbers, formerNumbers};
 ghost use Rattle.rows.specs.Written.{optionalNumbers, lastNumbers, latterNumbers, allNumbers, namesLine, namesSize};
 
-const COMMA: u8 = 44;
+pub const COMMA: u8 = 44;
 
 // "CR LF"
-const CR: u8 = 13;
+pub const CR: u8 = 13;
 
-const LF: u8 = 10;
+pub const LF: u8 = 10;
 
 // No line is longer: names of 128, 128 and 96 quotes, and 18 numbers of ten digits.
 pub const MOST_LINE: usize = 1024;

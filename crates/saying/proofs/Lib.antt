@@ -1,2 +1,3 @@
+pub mod Passing
 pub mod Reading
 pub mod Writing

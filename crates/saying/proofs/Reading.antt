@@ -16,9 +16,11 @@ use Rattle.parsing.proofs.Fields.{part-end}
 use Rattle.listing.proofs.Lists.{first-length}
 use Rattle.importing.specs.Said.{placeOf, saidAt}
 use Rattle.saying.specs.Noted.{noted, Noted}
+use Rattle.saying.specs.Passed.{lineSize}
+use Rattle.saying.proofs.Passing.{place-past}
 
 -- a line has bytes, and stands in the list
-line-some : (r : Row) → 0 < length (lineOf r)
+pub line-some : (r : Row) → 0 < length (lineOf r)
 unfolding lineOf quoted
 line-some r = omega arith
 
@@ -88,64 +90,64 @@ unfolding placeOf
 place-first list = sym first-length
 
 -- Places that are kept.
-pub noted-none : (list places : List ℕ) → length places ≡ 65 → Noted list places 0
-noted-none list places e = record { size = e; each = λ i h. absurd (omega arith) }
+pub noted-none : (list places : List ℕ) → length places ≡ 128 → Noted list places 0
+noted-none list places e = record { size = e; each = λ i h. absurd (omega arith); there = λ i h. absurd (omega arith) }
 
 pub noted-less : (list places : List ℕ) (m n : ℕ) → m ≤ n → Noted list places n → Noted list places m
-noted-less list places m n h k = record { size = k .size; each = λ i l. k .each i (omega arith) }
+noted-less list places m n h k = record { size = k .size; each = λ i l. k .each i (omega arith); there = λ i l. k .there i (omega arith) }
 
-pub note-kept : (places : List ℕ) (n at : ℕ) → n % 64 ≡ 0 → set places (n / 64) at ≡ noted places n at
+pub note-kept : (places : List ℕ) (n at : ℕ) → n % 32 ≡ 0 → set places (n / 32) at ≡ noted places n at
 unfolding noted
-note-kept places n at e = rw (eq-eqb (n % 64) 0 e)
+note-kept places n at e = rw (eq-eqb (n % 32) 0 e)
 
-pub note-other : (places : List ℕ) (n at : ℕ) → (n % 64 ≡ 0 → ⊥) → places ≡ noted places n at
+pub note-other : (places : List ℕ) (n at : ℕ) → (n % 32 ≡ 0 → ⊥) → places ≡ noted places n at
 unfolding noted
-note-other places n at e = rw (ne-eqb (n % 64) 0 e)
+note-other places n at e = rw (ne-eqb (n % 32) 0 e)
 
-pub noted-more : (list places : List ℕ) (n at : ℕ) {ps : List ℕ} → ps ≡ noted places n at → at ≡ placeOf list n → n ≤ 4096 → Noted list places n
-    → Noted list ps (n + 1)
+pub noted-more : (list places : List ℕ) (n at : ℕ) {ps : List ℕ} → ps ≡ noted places n at → at ≡ placeOf list n → n < 4096
+    → placeOf list n < placeOf list (n + 1) → Noted list places n → Noted list ps (n + 1)
 unfolding noted
-noted-more list places n at e p h k = rw e (go (eqb (n % 64) 0) refl)
+noted-more list places n at e p h q k = rw e (go (eqb (n % 32) 0) refl)
   where
-    go : (x : Bool) → eqb (n % 64) 0 ≡ x → Noted list (cond x (set places (n / 64) at) places) (n + 1)
+    line-there : (i : ℕ) → i < n + 1 → (y : Bool) → eqb i n ≡ y → placeOf list i < placeOf list (i + 1)
+    line-there i l true g = rw (eqb-true i n g) q
+    line-there i l false g = let z : i ≡ n → ⊥ = eqb-false i n g in k .there i (omega arith)
+
+    go : (x : Bool) → eqb (n % 32) 0 ≡ x → Noted list (cond x (set places (n / 32) at) places) (n + 1)
     go false f =
-        let z : n % 64 ≡ 0 → ⊥ = eqb-false (n % 64) 0 f in
-        record { size = k .size; each = λ i l. k .each i (omega arith) }
-    go true f = record { size = rw length-set (k .size); each = λ i l. pick i l (eqb i (n / 64)) refl }
+        let z : n % 32 ≡ 0 → ⊥ = eqb-false (n % 32) 0 f in
+        record { size = k .size; each = λ i l. k .each i (omega arith); there = λ i l. line-there i l (eqb i n) refl }
+    go true f =
+        record { size = rw length-set (k .size); each = λ i l. pick i l (eqb i (n / 32)) refl; there = λ i l. line-there i l (eqb i n) refl }
       where
-        z : n % 64 ≡ 0
-        z = eqb-true (n % 64) 0 f
+        z : n % 32 ≡ 0
+        z = eqb-true (n % 32) 0 f
 
-        pick : (i : ℕ) → 64 * i < n + 1 → (y : Bool) → eqb i (n / 64) ≡ y → getD (set places (n / 64) at) i 0 ≡ placeOf list (64 * i)
+        pick : (i : ℕ) → 32 * i < n + 1 → (y : Bool) → eqb i (n / 32) ≡ y → getD (set places (n / 32) at) i 0 ≡ placeOf list (32 * i)
         pick i l true g =
-            let q : i ≡ n / 64 = eqb-true i (n / 64) g in
-            let d : 64 * (n / 64) ≡ n = omega (arith, z) in
-            rw (q, getD-set-same places (n / 64) at 0 (omega (arith, k .size)), d) p
+            let q : i ≡ n / 32 = eqb-true i (n / 32) g in
+            let d : 32 * (n / 32) ≡ n = omega (arith, z) in
+            rw (q, getD-set-same places (n / 32) at 0 (omega (arith, k .size)), d) p
         pick i l false g =
-            let q : i ≡ n / 64 → ⊥ = eqb-false i (n / 64) g in
-            rw (getD-set-other places (n / 64) i at 0 q) (k .each i (omega arith))
+            let q : i ≡ n / 32 → ⊥ = eqb-false i (n / 32) g in
+            rw (getD-set-other places (n / 32) i at 0 q) (k .each i (omega arith))
 
--- A block read again: lines are read from a place that was kept up to its own.
-pub again-place : (list places : List ℕ) (k i : ℕ) {at : ℕ} → Noted list places k → i ≡ (k - 1) / 64 → 1 ≤ k → at ≡ getD places i 0 → at ≡ placeOf list (64 * i)
-again-place list places k i n e h f = f ∙ n .each i (omega arith)
+-- A block read again: lines are passed over from a place that was kept up to its own.
+module _ (list places : List ℕ) (k : ℕ) (n : Noted list places k) where
+  pub again-place : (i : ℕ) {at : ℕ} → i ≡ (k - 1) / 32 → 1 ≤ k → at ≡ getD places i 0 → at ≡ placeOf list (32 * i)
+  again-place i e h f = f ∙ n .each i (omega arith)
 
-pub again-within : (list places : List ℕ) (k : ℕ) {at : ℕ} → Noted list places k → 1 ≤ k → at ≡ getD places ((k - 1) / 64) 0 → 121 ≤ length list
-    → at ≤ length list
-again-within list places k n h f l = rw (again-place list places k ((k - 1) / 64) n refl h f) (place-within list (64 * ((k - 1) / 64)) l)
+  pub again-within : {at : ℕ} → 1 ≤ k → at ≡ getD places ((k - 1) / 32) 0 → 121 ≤ length list → at ≤ length list
+  again-within h f l = rw (again-place ((k - 1) / 32) refl h f) (place-within list (32 * ((k - 1) / 32)) l)
 
--- the block holds the last line that was read
-pub record LastRead (list header out : List ℕ) (first n : ℕ) : Type 0 where
-  pub said : first < n → out ≡ saidAt list header n
+  pub again-past : (m at : ℕ) {r : ℕ} → m < k - 1 → at ≡ placeOf list m → r ≡ at + lineSize (drop at list) → r ≡ placeOf list (m + 1)
+  again-past m at h p e = place-past list m at (n .there m (omega arith)) p e
 
-pub last-none : (list header out : List ℕ) (n : ℕ) → LastRead list header out n n
-last-none list header out n = record { said = λ h. absurd (omega arith) }
+pub again-end : (list : List ℕ) (n k at : ℕ) → n ≤ k - 1 → k - 1 ≤ n → at ≡ placeOf list n → at ≡ placeOf list (k - 1)
+again-end list n k at a b p = let q : n ≡ k - 1 = omega arith in rw (← q) p
 
-pub last-more : (list header out : List ℕ) (first n : ℕ) → out ≡ saidAt list header (n + 1) → LastRead list header out first (n + 1)
-last-more list header out first n e = record { said = λ h. e }
-
-pub last-end : (list header out : List ℕ) (i n k : ℕ) → LastRead list header out (64 * i) n → i ≡ (k - 1) / 64 → 1 ≤ k → n ≤ k → k ≤ n
-    → out ≡ saidAt list header k
-last-end list header out i n k l e h a b = let q : n ≡ k = omega arith in rw (← q) (l .said (omega arith))
+pub again-said : (list header : List ℕ) (k : ℕ) {y : List ℕ} → 1 ≤ k → y ≡ saidAt list header (k - 1 + 1) → y ≡ saidAt list header k
+again-said list header k h e = let q : k - 1 + 1 ≡ k = omega arith in rw q at e
 
 -- every block that is said is whole
 pub said-whole : (list header : List ℕ) (k : ℕ) → length header ≡ 512 → length (saidAt list header k) ≡ 512

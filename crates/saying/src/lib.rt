@@ -3,22 +3,24 @@ use blocks::BLOCK;
 use octets::number;
 use octets::run;
 use record::header::Header;
+use rows::LF;
 ghost use mathlib.Core.Path.{_≡_};
 ghost use Prim.Native.Nat.{_+_, _*_, _≤_, _<_};
-ghost use lib.ListN.{length};
+ghost use lib.ListN.{length, drop};
 ghost use Rattle.octets.specs.Run.{Wrote};
 ghost use Rattle.importing.specs.Said.{placeOf, saidAt, tableSaid};
 ghost use Rattle.record.specs.Fields.{countOf};
 ghost use Rattle.saying.specs.Noted.{noted, Noted};
+ghost use Rattle.saying.specs.Passed.{lineSize};
 ghost use Rattle.saying.specs.Records.{recordsSaid};
 
 // Where the first record's line begins.
 pub const FIRST: usize = 121;
 
 // Of so many lines one has its place kept.
-const STEP: usize = 64;
+const STEP: usize = 32;
 
-// The block of record n + 1, whose line begins at a place, and how long that line is. A line that is none says zeros, and is not passed over.
+// The block of record n + 1, whose line begins at a place, and how long that line is. Where no line of a list stands, zeros are said and nothing is passed over.
 pub fn read(out: &mut [u8], list: &[u8], at: usize, n: usize, header: &[u8]) -> usize
     requires { ⌜ (length (now out) ≡ 512) × (length (now header) ≡ 512) × (n < 4096) × (at ≡ placeOf (now list) n) × (at ≤ length (now list)) ⌝ }
     ensures { λ r. ⌜ (now (out .exit) ≡ saidAt (now (list .entry)) (now (header .entry)) (n + 1)) × (at + r ≡ placeOf (now (list .entry)) (n + 1))
@@ -33,27 +35,50 @@ pub fn read(out: &mut [u8], list: &[u8], at: usize, n: usize, header: &[u8]) -> 
 }
 
 // Keeps the place of the line behind n records, if it is one of those that are kept.
-pub fn note(places: &mut [usize], n: usize, at: usize)
-    requires { ⌜ (length (now places) ≡ 65) × (n ≤ 4096) ⌝ }
+pub fn note(places: &mut [u32], n: usize, at: usize)
+    requires { ⌜ (length (now places) ≡ 128) × (n < 4096) × (at < 4294967296) ⌝ }
     ensures { λ _. ⌜ now (places .exit) ≡ noted (now (places .entry)) n at ⌝ }
 {
     if n % STEP == 0 {
-        places[n / STEP] = at;
+        places[n / STEP] = at as u32;
     }
 }
 
-// The block of record k once more, from the last place kept before it.
-pub fn again(out: &mut [u8], list: &[u8], places: &[usize], k: usize, header: &[u8])
+fn wide(x: u32) -> usize
+    ensures { λ r. ⌜ r ≡ x ⌝ }
+{
+    x as usize
+}
+
+// The place behind the line at a place, of which the LF alone is looked for.
+fn past(list: &[u8], at: usize) -> usize
+    requires { ⌜ at ≤ length (now list) ⌝ }
+    ensures { λ r. ⌜ (r ≡ at + lineSize (drop at (now (list .entry)))) × (r ≤ length (now (list .entry))) ⌝ }
+{
+    let mut i = at;
+    while i < list.len() {
+        if list[i] == LF {
+            return i + 1;
+        }
+        i += 1;
+    }
+    i
+}
+
+// The block of record k once more. From the last place kept before it lines are passed over, none of which is missing.
+pub fn again(out: &mut [u8], list: &[u8], places: &[u32], k: usize, header: &[u8])
     requires { ⌜ (length (now out) ≡ 512) × (length (now header) ≡ 512) × (1 ≤ k) × (k ≤ 4096) × (121 ≤ length (now list)) × Noted (now list) (now places) k ⌝ }
     ensures { λ _. ⌜ now (out .exit) ≡ saidAt (now (list .entry)) (now (header .entry)) k ⌝ }
 {
-    let i = (k - 1) / STEP;
-    let mut at = places[i];
+    let last = k - 1;
+    let i = last / STEP;
+    let mut at = wide(places[i]);
     let mut n = STEP * i;
-    while n < k {
-        at += read(out, list, at, n, header);
+    while n < last {
+        at = past(list, at);
         n += 1;
     }
+    read(out, list, at, last, header);
 }
 
 // Writes the blocks of the first records.

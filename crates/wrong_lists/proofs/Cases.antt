@@ -1,23 +1,27 @@
 -- Lists that differ from an export in one thing, and what import says of each, computed by the definitions: line 3 for a number with a leading zero, for the
 -- last CR LF missing and for a quote that is not doubled; line 4 for a line too many; line 2 where both records are wrong, and where no name is left above
 -- the first one's.
-use Rattle.octets.specs.Standard.{ℕ, _+_, true, _≡_, refl, ap, arith, List, _∷_, _++_, take, drop, replicate}
-use Rattle.octets.proofs.Numbers.{allBytes, are-bytes}
+use Rattle.octets.specs.Standard.{ℕ, _+_, _<_, _≤_, true, _≡_, refl, ap, _∙_, arith, List, [], _∷_, _++_, length, take, drop, replicate}
+use Rattle.octets.specs.Run.{over}
+use Rattle.octets.proofs.Numbers.{Bytes, allBytes, are-bytes}
 use Rattle.record.specs.Fields.{editionOf}
 use Rattle.blocks.specs.Blocks.{blockOf}
 use Rattle.blocks.specs.declared.Checked.the-variants.{Sound, Bad}
 use Rattle.listing.specs.ListOf.{firstLine, firstUnlisted}
-use Rattle.listing.specs.Export.{AfterList, refusing}
-use Rattle.listing.specs.declared.Listed.the-variants.{Written, Refused}
+use Rattle.listing.specs.Export.{AfterList, came, refusing, writing, exported}
+use Rattle.listing.specs.declared.Listed.the-variants.{Written}
 use Rattle.importing.specs.Said.{firstWrong}
 use Rattle.importing.specs.Import.{fitHeader, imported}
 use Rattle.importing.proofs.Given.{Exportable}
 use Rattle.list_example.proofs.Sample.{header, table, line1, line2, list, opened}
-use Rattle.list_example.proofs.Worked.{sound, listed}
-use Rattle.list_laws.proofs.Exactly.{AnExport, Accepts, accepts-exactly}
-use Rattle.list_laws.proofs.FirstLine.{NamedLine, first-line}
+use Rattle.list_example.proofs.Worked.{sound, listed, untitled, missing, surplus}
+use Rattle.list_laws.proofs.Outcomes.{export-gives}
+use Rattle.list_laws.proofs.Exports.{AnExport, NamedLine}
+use Rattle.list_laws.proofs.Exactly.{accepts-exactly}
+use Rattle.list_laws.proofs.Refusing.{ImportRefuses, unfit, wrong, narrow, import-refuses}
+use Rattle.list_laws.proofs.FirstLine.{first-line, named-once}
 
--- `,03,4,7` for `,3,4,7`
+-- `,03,4,8` for `,3,4,8`
 unfoldable pub leading : List ℕ
 leading = firstLine ++ (line1 ++ (take 71 line2 ++ (48 ∷ drop 71 line2)))
 
@@ -104,32 +108,81 @@ exportable =
       listed = unlisted;
     }
 
-pub an-export : AnExport list (header 2 2) 7
-an-export = record { table = table; exportable = exportable; list-is = listed }
+pub header-octets : Bytes (header 2 2)
+header-octets = are-bytes (header 2 2) header-bytes
 
--- so import accepts it, and none of the others
-pub accepted : Accepts list (header 2 2) 7
-accepted = accepts-exactly list (header 2 2) 7 (are-bytes (header 2 2) header-bytes) .all an-export
+list-over : writing list list ≡ came (Written 261) list
+unfolding writing over opened
+list-over = refl
 
-pub not-accepted : (l : List ℕ) (k : ℕ) → firstWrong l (header 2 2) 7 ≡ Bad k → Accepts l (header 2 2) 7 → ⊥
-not-accepted l k e a =
-    let r : imported l (header 2 2) 7 (a .area) .said ≡ Refused 14 (k + 1) = ap (λ (o : AfterList). o .said) (refused l 7 k (a .area) e) in
-    let w : imported l (header 2 2) 7 (a .area) .said ≡ Written (a .bytes) = a .written in
-    let z : _≡_ {A = ℕ} 0 1 = cc in
-    omega arith
+pub exported-so : exported table 7 list ≡ came (Written 261) list
+exported-so = export-gives (header 2 2) 7 table exportable list ∙ ap (writing list) listed ∙ list-over
 
-pub leading-not : Accepts leading (header 2 2) 7 → ⊥
-leading-not = not-accepted leading 2 leading-wrong
+pub list-taken : take 261 list ≡ list
+unfolding opened
+list-taken = refl
 
-pub unclosed-not : Accepts unclosed (header 2 2) 7 → ⊥
-unclosed-not = not-accepted unclosed 2 unclosed-wrong
+abbrev pub an-export : AnExport list (header 2 2) 7
+an-export =
+    record {
+      table = table;
+      bytes = are-bytes table table-bytes;
+      header-block = first-block;
+      area = list;
+      size = 261;
+      after = list;
+      wrote = exported-so;
+      list-is = list-taken;
+    }
 
-pub longer-not : Accepts longer (header 2 2) 7 → ⊥
-longer-not = not-accepted longer 3 longer-wrong
+-- so import gives its table over the front of any area that holds it, and 15 in a shorter one
+pub accepted : (area : List ℕ) → length table ≤ length area → imported list (header 2 2) 7 area ≡ came (Written (length table)) (table ++ drop (length table) area)
+accepted area h = accepts-exactly list (header 2 2) 7 area header-octets .given an-export h
 
--- The line that is named is the first that no export could hold there: line 3 of the list with a leading zero, line 2 where no name is left above.
+pub narrow-area : (area : List ℕ) → length area < length table → imported list (header 2 2) 7 area ≡ refusing area 15 0
+narrow-area area h = accepts-exactly list (header 2 2) 7 area header-octets .short an-export h
+
+-- No export has any of the others.
+pub no-export : (l : List ℕ) (k : ℕ) → firstWrong l (header 2 2) 7 ≡ Bad k → AnExport l (header 2 2) 7 → ⊥
+no-export l k e = go 14 (k + 1) (import-refuses l (header 2 2) 7 [] header-octets 14 (k + 1) (ap (λ (o : AfterList). o .said) (refused l 7 k [] e))) refl
+  where
+    go : (a b : ℕ) → ImportRefuses l (header 2 2) 7 [] a b → a ≡ 14 → AnExport l (header 2 2) 7 → ⊥
+    go a b (unfit f) q x = omega arith
+    go a b (wrong j f none n) q x = none x
+    go a b (narrow y h) q x = omega arith
+
+pub leading-not : AnExport leading (header 2 2) 7 → ⊥
+leading-not = no-export leading 2 leading-wrong
+
+pub unclosed-not : AnExport unclosed (header 2 2) 7 → ⊥
+unclosed-not = no-export unclosed 2 unclosed-wrong
+
+pub longer-not : AnExport longer (header 2 2) 7 → ⊥
+longer-not = no-export longer 3 longer-wrong
+
+-- The line that is named is the first that no export could hold there: line 1 where the first is cut; line 3 of the list with a leading zero, of one without
+-- its last CR LF and of one that ends before it; line 4 behind the last; line 2 where no name is left above.
+line-named : (l : List ℕ) (k : ℕ) → firstWrong l (header 2 2) 7 ≡ Bad k → NamedLine l (header 2 2) 7 k
+line-named l k e = first-line l (header 2 2) 7 header-octets fit k e
+
+pub untitled-line : NamedLine (take 120 list) (header 2 2) 7 0
+untitled-line = line-named (take 120 list) 0 untitled
+
 pub leading-line : NamedLine leading (header 2 2) 7 2
-leading-line = first-line leading (header 2 2) 7 (are-bytes (header 2 2) header-bytes) fit 2 leading-wrong
+leading-line = line-named leading 2 leading-wrong
+
+pub unclosed-line : NamedLine unclosed (header 2 2) 7 2
+unclosed-line = line-named unclosed 2 unclosed-wrong
+
+pub missing-line : NamedLine (firstLine ++ line1) (header 2 2) 7 2
+missing-line = line-named (firstLine ++ line1) 2 missing
+
+pub surplus-line : NamedLine (list ++ (10 ∷ [])) (header 2 2) 7 3
+surplus-line = line-named (list ++ (10 ∷ [])) 3 surplus
 
 pub highest-line : NamedLine highest (header 2 2) 7 1
-highest-line = first-line highest (header 2 2) 7 (are-bytes (header 2 2) header-bytes) fit 1 highest-wrong
+highest-line = line-named highest 1 highest-wrong
+
+-- and no other line is
+pub leading-once : (j : ℕ) → NamedLine leading (header 2 2) 7 j → j ≡ 2
+leading-once j n = named-once leading (header 2 2) 7 j 2 n leading-line

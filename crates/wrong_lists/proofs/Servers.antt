@@ -1,6 +1,6 @@
 -- Wrong exports and imports. Each is a function here that is right but for one error, and at an input that is computed its outcome does not meet the promise.
 use Rattle.octets.specs.Standard.{ℕ, zero, suc, _+_, _*_, Bool, _&&_, cond, _≡_, refl, sym, ap, _∙_, arith, List, [], _∷_, _++_, length, take}
-use Rattle.octets.specs.Standard.{_-_, drop, eqb, leb, eq-eqb, getD, _≤_, _≢_}
+use Rattle.octets.specs.Standard.{_-_, drop, eqb, eq-eqb, getD, _≤_, _≢_}
 use Rattle.octets.specs.Run.{over}
 use Rattle.record.specs.Fields.{countOf, editionOf}
 use Rattle.record.specs.HeaderBlock.{headerOf}
@@ -8,6 +8,7 @@ use Rattle.blocks.specs.Blocks.{blockOf, firstBad}
 use Rattle.blocks.specs.declared.Checked.{Checked}
 use Rattle.blocks.specs.declared.Checked.the-variants.{Sound, Bad}
 use Rattle.table.specs.Check.{soundAt}
+use Rattle.decimals.specs.Decimal.{isDigit}
 use Rattle.rows.specs.Row.{Row, rowOf, numbersLine}
 use Rattle.listing.specs.ListOf.{firstLine}
 use Rattle.listing.specs.Export.{AfterList, refusing, writing, exportPast, exportSound, exportChecked, exported}
@@ -22,6 +23,7 @@ use Rattle.list_example.proofs.Sample.{header, table, list, opened}
 use Rattle.list_example.proofs.Worked.{sound, listed}
 use Rattle.wrong_lists.proofs.Cases.{leading, unclosed, longer, swapped, highest, leading-wrong, unclosed-wrong, longer-wrong, swapped-wrong}
 use Rattle.wrong_lists.proofs.Cases.{highest-wrong}
+use Rattle.wrong_lists.proofs.Instances.{tabbed, thirteen, five-header}
 use Rattle.wrong_lists.proofs.Cases.{fit, refused, exportable, edition-two, first-block, unlisted}
 
 -- what a call leaves
@@ -111,10 +113,20 @@ idle-fails f e m =
 writing-fails : (f : Importer) (area : List ℕ) → f leading (header 2 2) profile area .area ≢ area → Imports f leading (header 2 2) profile area → ⊥
 writing-fails f area n m = n (m .table-is ∙ ap (λ (o : AfterList). o .area) (refused leading 7 2 area leading-wrong))
 
--- A leading zero is passed over: a 0 between a comma and a digit.
-abbrev isDigit : ℕ → Bool
-isDigit x = leb 48 x && leb x 57
+-- Lines are numbered from 0.
+from-zero-fails : (f : Importer) → f leading (header 2 2) profile table .word ≡ 14 * 281474976710656 + 2 → Imports f leading (header 2 2) profile table → ⊥
+from-zero-fails f e m = omega (arith, word-given f leading profile table 2 leading-wrong m)
 
+-- 15 goes before 14.
+hasty-fails : (f : Importer) → f leading (header 2 2) profile [] .word ≡ 15 * 281474976710656 → Imports f leading (header 2 2) profile [] → ⊥
+hasty-fails f e m = omega (arith, word-given f leading profile [] 2 leading-wrong m)
+
+-- 14 goes before 5.
+header-last-fails : (f : Importer) (line : ℕ) → f leading (header 1 2) profile table .word ≡ 14 * 281474976710656 + line
+    → Imports f leading (header 1 2) profile table → ⊥
+header-last-fails f line e m = omega (arith, m .word-is ∙ ap (λ (o : AfterList). listWord (o .said)) (five-header leading table))
+
+-- A leading zero is passed over: a 0 between a comma and a digit.
 stripped : List ℕ → List ℕ
 stripped [] = []
 stripped (x ∷ s) = cond (eqb x 44 && (eqb (getD s 0 0) 48 && isDigit (getD s 1 0))) (44 ∷ drop 1 (stripped s)) (x ∷ stripped s)
@@ -195,20 +207,20 @@ shortWrong : List ℕ → List ℕ → ℕ → Checked
 shortWrong l h file =
     cond (isTitled l) (overRecords l (firstBad (soundAt (tableSaid l h) (headerOf h) file) (countOf h) (countOf h) 1)) (Bad 0)
 
-sighted : Importer
-sighted l h p a = leaving (cond (fitHeader h) (importPast l h a (shortWrong l h (length p))) (refusing a 5 0))
+shortsighted : Importer
+shortsighted l h p a = leaving (cond (fitHeader h) (importPast l h a (shortWrong l h (length p))) (refusing a 5 0))
 
-sighted-names : shortWrong highest (header 2 2) 7 ≡ Bad 2
+shortsighted-names : shortWrong highest (header 2 2) 7 ≡ Bad 2
 unfolding shortWrong highest opened
-sighted-names = refl
+shortsighted-names = refl
 
-sighted-fails : Imports sighted highest (header 2 2) profile table → ⊥
-unfolding sighted
-sighted-fails m =
+shortsighted-fails : Imports shortsighted highest (header 2 2) profile table → ⊥
+unfolding shortsighted
+shortsighted-fails m =
     let w : listWord (cond (fitHeader (header 2 2)) (importPast highest (header 2 2) table (shortWrong highest (header 2 2) 7)) (refusing table 5 0) .said)
     ≡ 14 * 281474976710656 + (1 + 1) =
-    word-given sighted highest profile table 1 highest-wrong m in
-    let v : 14 * 281474976710656 + (2 + 1) ≡ 14 * 281474976710656 + (1 + 1) = rw (fit, sighted-names) at w in
+    word-given shortsighted highest profile table 1 highest-wrong m in
+    let v : 14 * 281474976710656 + (2 + 1) ≡ 14 * 281474976710656 + (1 + 1) = rw (fit, shortsighted-names) at w in
     omega arith
 
 -- An export of a table, a profile file and an area.
@@ -274,3 +286,45 @@ singly-fails m =
     ≡ listWord (exported table 7 list .said) = m .word-is in
     let v : listWord (writing list (singleList table) .said) ≡ 261 = rw said-so at w in
     omega (arith, single-said)
+
+-- The same of exports: everything is refused; the answer is fixed, and fails at one of two tables; the number of bytes is invented; 13 comes with another block;
+-- nothing is written though it is said; something is written under a refusal.
+export-word : (f : Exporter) → Exports f table profile list → f table profile list .word ≡ 261
+export-word f m = m .word-is ∙ ap listWord said-so
+
+tabbed-word : (f : Exporter) (area : List ℕ) → Exports f tabbed profile area → f tabbed profile area .word ≡ 13 * 281474976710656 + 1
+tabbed-word f area m = m .word-is ∙ ap (λ (o : AfterList). listWord (o .said)) (thirteen area)
+
+refused-export-fails : (f : Exporter) (number value : ℕ) → 1 ≤ number → f table profile list .word ≡ number * 281474976710656 + value
+    → Exports f table profile list → ⊥
+refused-export-fails f number value h e m = omega (arith, export-word f m)
+
+fixed-export-fails : (f : Exporter) → f table profile list .word ≡ f tabbed profile list .word → Exports f table profile list → Exports f tabbed profile list → ⊥
+fixed-export-fails f e m n = omega (arith, export-word f m, tabbed-word f list n)
+
+invented-export-fails : (f : Exporter) (bytes : ℕ) → bytes ≢ 261 → f table profile list .word ≡ bytes → Exports f table profile list → ⊥
+invented-export-fails f bytes n e m = n (sym e ∙ export-word f m)
+
+block-export-fails : (f : Exporter) (area : List ℕ) (block : ℕ) → block ≢ 1 → f tabbed profile area .word ≡ 13 * 281474976710656 + block
+    → Exports f tabbed profile area → ⊥
+block-export-fails f area block n e m = n (omega (arith, tabbed-word f area m))
+
+other-byte : getD (over list (7 ∷ drop 1 list)) 0 0 ≡ 112
+unfolding over opened
+other-byte = refl
+
+other-size : length (7 ∷ drop 1 list) ≡ 261
+unfolding opened
+other-size = refl
+
+idle-export-fails : (f : Exporter) → f table profile (7 ∷ drop 1 list) .area ≡ 7 ∷ drop 1 list → Exports f table profile (7 ∷ drop 1 list) → ⊥
+unfolding writing
+idle-export-fails f e m =
+    let a : f table profile (7 ∷ drop 1 list) .area ≡ writing (7 ∷ drop 1 list) list .area =
+    m .list-is ∙ ap (λ (o : AfterList). o .area) (exported-is (7 ∷ drop 1 list)) in
+    let w : writing (7 ∷ drop 1 list) list .area ≡ over list (7 ∷ drop 1 list) = rw (list-size, other-size) in
+    let z : _≡_ {A = ℕ} 7 112 = ap (λ (l : List ℕ). getD l 0 0) (sym e ∙ a ∙ w) ∙ other-byte in
+    omega arith
+
+writing-export-fails : (f : Exporter) (area : List ℕ) → f tabbed profile area .area ≢ area → Exports f tabbed profile area → ⊥
+writing-export-fails f area n m = n (m .list-is ∙ ap (λ (o : AfterList). o .area) (thirteen area))

@@ -1,14 +1,14 @@
 use Rattle.octets.specs.Standard.{_-_, _≤_, _≡_, length, needs}
 use Rattle.importing.specs.Said.{placeOf}
-use Rattle.saying.proofs.Reading.{LastRead, again-place, again-within, last-none, last-more, last-end}
+use Rattle.saying.proofs.Reading.{again-place, again-within, again-past, again-end, again-said}
 use Rattle.saying.proofs.again.Statement.{statement}
 use Rattle.saying.proofs.again.Tie as tie
 
 abbrev Inv-loop : tie.InvT-loop
-Inv-loop out₀ list places k header i at₀ n₀ out at n = (n ≤ k) × (at ≡ placeOf list n) × (at ≤ length list) × (length out ≡ 512) × LastRead list header out n₀ n
+Inv-loop out list places k header last i at₀ n₀ at n = (n ≤ last) × (at ≡ placeOf list n) × (at ≤ length list)
 
 abbrev μ-loop : tie.MeasureT-loop
-μ-loop out₀ list places k header i at₀ n₀ out at n = k - n
+μ-loop out list places k header last i at₀ n₀ at n = last - n
 
 pub again-spec : {M : Type 1} → statement M
 again-spec =
@@ -20,11 +20,12 @@ again-spec =
     (λ c. search needs)
     (λ c. search needs)
     (λ c. search needs)
-    (λ c. (search needs, search (needs, again-place), search (needs, again-within), search needs, search (needs, last-none)))
+    (λ c. search needs)
+    (λ c. (search needs, search (needs, again-place), search (needs, again-within)))
     (λ c κs. search needs)
     (λ c. search needs)
     (λ c. search needs)
+    (λ c. (search needs, search (needs, again-past), search needs))
+    (λ c κs. (search needs, search needs, search needs, search (needs, again-end), search needs))
     (λ c. search needs)
-    (λ c. (search needs, search needs, search needs, search needs, search (needs, last-more)))
-    (λ c. search needs)
-    (λ c. search (needs, last-end)))
+    (λ c. search (needs, again-said)))

@@ -10,5 +10,6 @@ note-spec =
     (λ c. search needs)
     (λ c. search needs)
     (λ c. search needs)
+    (λ c. search needs)
     (λ c. search (needs, note-kept))
     (λ c. search (needs, note-other)))

@@ -1,7 +1,7 @@
 use Rattle.octets.specs.Standard.{_-_, _≡_, length, needs}
 use Rattle.record.specs.Fields.{countOf}
 use Rattle.judging.specs.Passes.{Standing}
-use Rattle.judging.proofs.Passes.{standing-none, standing-more, stood-here, stood-end}
+use Rattle.judging.proofs.Passes.{standing-none, place-small, standing-more, stood-here, stood-end}
 use Rattle.judging.proofs.standing.standing.Statement.{statement}
 use Rattle.judging.proofs.standing.standing.Tie as tie
 
@@ -21,19 +21,20 @@ standing-spec =
     (λ c. search needs)
     (λ c. (search (needs, standing-none), search needs))
     (λ c κs. search needs)
-    (λ c κs. search needs)
+    (λ c κs. (search needs, search needs, search (needs, place-small)))
     (λ c κs. search needs)
     (λ c. search needs)
     (λ c. search needs)
     (λ c. search needs)
     (λ c. (
       standing-more _ _ (search needs) _ _ _ _ _ _
-          (c .before .before .before .before .before .before .before .before .before .before .before .before
-          .before .before .before .before .before .before .loop .inv .0)
+          (c .before .before .before .before .before .before .before .before .before
+          .before .before .before .before .before .before .before .before .before .loop .inv .0)
           (search needs)
-          (c .before .before .before .before .before .before .before .before .before .before .before .before .before .before .before .note .ensures)
-          (c .before .before .before .before .before .before .before .before .before .before .judge .ensures)
-          (c .before .before .before .before .before .before .if1 .taken)
+          (c .before .before .before .before .before .before .before
+          .before .before .before .before .before .before .before .judge .ensures)
+          (c .before .before .before .before .before .before .before .before .before .before .if1 .taken)
+          (c .before .before .before .before .before .before .before .before .note .ensures)
           (c .before .before .before .copy .ensures),
       search needs,
     ))
@@ -42,9 +43,8 @@ standing-spec =
     (λ c. search needs)
     (λ c.
     stood-here _ _ (search needs) _ _ _ _ _ _
-    (c .before .before .before .before .before .before .before .before .before .before .before .before .loop .inv .0)
+    (c .before .before .before .before .before .before .before .before .loop .inv .0)
     (search needs)
-    (c .before .before .before .before .before .before .before .before .before .note .ensures)
     (c .before .before .before .before .judge .ensures)
     (c .if1 .left))
     (λ c. search needs)
