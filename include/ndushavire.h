@@ -243,7 +243,8 @@ uint64_t ndushavire_export(const uint8_t *table, size_t table_len, const uint8_t
  *    from 1, the line with the columns' names: one that is not in the form of a list, or whose record breaks a rule of the table; the first one missing,
  *    where there are fewer than the header block counts; the first one too many;
  * 15 the area is shorter than the table, with value 0.
- * A list of thousands of records with many sets takes a good part of a second: it is not for the thread that serves. */
+ * A list of thousands of records takes some tens of milliseconds, one whose names were chosen to make it slow some seconds: it is not for the thread that
+ * serves. */
 uint64_t ndushavire_import(const uint8_t *list, size_t list_len, const uint8_t *header, size_t header_len, const uint8_t *profile, size_t profile_len,
                            uint8_t *table, size_t table_len);
 

@@ -6,9 +6,10 @@ one that shows it; of each result one, and then more: a refusal with what it ret
 reading rules also its type, and where it succeeds or meets a wrong state also keep, the state, whether it names many identities and whether
 it is about a set; of a MAR that succeeds the state, whether it is about a set and whether the record changes; of a UAR whether it is about
 a set; of a UDR whether it asks for state, name or another, and of a success the state and whether a name is stored; of a report how it ends and what
-it counts; of all the edition of the table or area, and that of the base standard. After them stand the requests of real software in captured/, each over
+it counts; of an export or import how many lines there are, and whether some have a set, a quote in a name or a name near the last that there is; of all the
+edition of the table or area, and that of the base standard. After them stand the requests of real software in captured/, each over
 the table and the vectors that their heads describe. Nothing here is random: a second run writes the same bytes."""
-import collections, pathlib, struct, sys
+import collections, pathlib, re, struct, sys
 
 import streams
 from streams import answer, avps, made, outcomes, run
@@ -17,6 +18,7 @@ MOST = 930_000  # bytes of cases
 CX = 10415
 RULES = tuple(('B', n) for n in (5001, 5004, 5014, 3009, 5011, 3008, 3001, 3007))
 KNOWN = {(n, 0) for n in (263, 260, 277, 264, 296, 293, 283, 1, 284, 282)} | {(n, CX) for n in (601, 600, 623, 602, 614, 624, 607, 612, 628, 700, 703)}
+UNCALLED = 'Plain', 'Row', 'RestOfRow'  # how the faults of entries begin that the program does not call: the plain engine, and a row of requests
 EFFECTS = ('B', 2001), ('X', 2004), ('X', 5007)
 
 
@@ -34,9 +36,9 @@ def month(case, outcome):
 
 
 def edition(case):
-    """Byte 1 of its table or area, if that is one of the two editions; and which base standard its peer follows, if that is one of the two."""
+    """Byte 1 of its header block, table or area, if that is one of the two editions; and which base standard its peer follows, if that is one of the two."""
     held = streams.slices(case)
-    said = held.get('table', held.get('area', b''))[1:2]
+    said = held.get('header', held.get('table', held.get('area', b'')))[1:2]
     return said if said in (b'\1', b'\2') else b'', case.entry in streams.NUMBERS and case.numbers[0] == 6733
 
 
@@ -68,10 +70,24 @@ def box(case, outcome):
     return result, carried
 
 
+def listed(case, outcome):
+    """What an export or import comes to: its refusal with the block or line, or how many lines there are, up to three; and of the list that is written or read
+    whether some line has a set, some name a quote, and some name is near the last that there is."""
+    number, value = outcome.word >> 48, outcome.word & 0xFFFFFFFF
+    if case.entry == 9:
+        text = streams.slices(case)['list']
+    else:
+        text = b'' if number else streams.after(case, outcome, 'list')[:value]
+    told = any(not line.endswith(b',0') for line in text.split(b'\r\n')[1:-1]), bool(re.search(b'[^,]""', text)), b'~' * 126 in text
+    return (case.entry, outcome.word if number else min(text.count(b'\n'), 3)), (*told, case.fill % 6 if number == 5 else 0)
+
+
 def row(case, outcome):
     """What a case comes to, and what its answer carries."""
     if case.entry == 4:
         return month(case, outcome)
+    if case.entry in (8, 9):
+        return listed(case, outcome)
     if outcome.word >> 48 or case.entry not in (2, 10):
         several = case.entry not in (2, 10) or outcome.word >> 48 >= 5  # a bad block has many causes
         return (case.entry, outcome.word, streams.sizes(case).get('request', 0) > 16384), case.fill % 6 if several else 0
@@ -114,7 +130,7 @@ def fits(case):
 def small(case):
     sizes = streams.sizes(case)
     request = sizes.get('request', sizes.get('requests', 0) // 4)  # some requests in a row
-    files = longest(sizes, 'vectors', *TABLES) <= 2048 and sizes.get('profile', 0) <= 700
+    files = longest(sizes, 'vectors', 'list', *TABLES) <= 2048 and sizes.get('profile', 0) <= 700
     return files and (request <= 900 or request > 16384)
 
 
@@ -122,7 +138,7 @@ def fitting(reference):
     """Cases that fit, the smallest first."""
     found = []
     few = [(kind, (1,), 4000) for kind in ('tables', 'vectors', 'reports', 'moves', 'takes')]
-    for kind, seeds, count in (*few, ('voicemail', (1,), 10000), ('calls', range(1, 6), 20000)):
+    for kind, seeds, count in (*few, ('lists', (1,), 6000), ('voicemail', (1,), 10000), ('calls', range(1, 6), 20000)):
         for seed in seeds:
             found += [case for case in streams.cases(made(reference, kind, seed, count)) if fits(case)]
     return sorted(found, key=lambda case: len(case.whole))
@@ -145,18 +161,13 @@ def showing(reference, fault, found, told):
 
 
 def telling(reference, found, told):
-    """For each deliberate fault of the independent program the first case that shows it, unless one for a fault before does. The libraries have no lists: a
-    fault that shows in a list, and in none of the smallest cases, is left out."""
-    kept, lists = [], list(streams.cases(made(reference, 'lists', 1, 2000)))
-    listed = lists, outcomes_of(reference, lists)
+    """For each deliberate fault of the independent program the first case that shows it, unless one for a fault before does."""
+    kept = []
     for line in run(reference, 'faults').decode().splitlines():
         fault = line.split()[0]
-        if kept and showing(reference, fault, *zip(*kept)):
+        if fault.startswith(UNCALLED) or kept and showing(reference, fault, *zip(*kept)):
             continue
-        case = showing(reference, fault, found[:1000], told[:1000])
-        if case is None and showing(reference, fault, *listed):
-            continue
-        case = case or showing(reference, fault, found[1000:], told[1000:])
+        case = showing(reference, fault, found, told)
         if case is None:
             print(f'no case shows {fault}')
         else:
@@ -165,8 +176,8 @@ def telling(reference, found, told):
 
 
 def chosen(reference):
-    """The smallest case for each fault and for each result, then for each result over each edition, then with what the answer carries, and
-    more while there is room."""
+    """The smallest case for each fault and for each result, those of lists first, of which many have several records; then for each result over each edition,
+    then with what the answer carries, and more while there is room."""
     found = fitting(reference)
     told = outcomes_of(reference, found)
     results, editions, rows = (collections.defaultdict(list) for _ in range(3))
@@ -177,7 +188,8 @@ def chosen(reference):
             editions[result, edition(case)].append(case.whole)
             rows[result, carried, edition(case)].append(case.whole)
     taken, left = {}, MOST
-    for groups in telling(reference, found, told), results.values(), editions.values(), rows.values(), (group[1:] for group in rows.values()):
+    lists_first = [results[result] for result in sorted(results, key=lambda result: result[0] not in (8, 9))]
+    for groups in telling(reference, found, told), lists_first, editions.values(), rows.values(), (group[1:] for group in rows.values()):
         for group in groups:
             if group and len(group[0]) <= left and not any(case in taken for case in group):
                 taken[group[0]] = None

@@ -71,11 +71,12 @@ saved_by_office() { # IN OUT: the file saved/list.csv
         >office.log 2>&1 && [ -s saved/list.csv ] || fail "LibreOffice saves nothing: $(cat office.log)"
 }
 saved_by_office 44,34,76,1,,1033,true,false 44,34,76,1,,1033,true,false
-refused saved/list.csv 'saved by LibreOffice, with the settings of the page'
+refused saved/list.csv 'saved by LibreOffice, with the settings of the page' 1
 comes_back saved/list.csv 'saved by LibreOffice, with the settings of the page'
 saved_by_office 44,34,76,1,,1033,false,true 44,34,76,1,,1033,false,true
-refused saved/list.csv 'saved by LibreOffice, without them'
+refused saved/list.csv 'saved by LibreOffice, without them' 1
 formed saved/list.csv || fail 'saved by LibreOffice, without them: it is not put into its form'
+refused formed.csv 'saved by LibreOffice without them, and put into its form'
 ! "$tests/cells.py" altered list.csv formed.csv >altered || fail 'LibreOffice alters no name without the settings of the page, which says that it does'
 echo "spreadsheet.sh: LibreOffice without the settings alters $(wc -l <altered) cells:"
 sed 's/^/    /' altered

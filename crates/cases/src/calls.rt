@@ -110,6 +110,33 @@ fn take(given: &[u8], w: &[u8; 64]) -> bool {
     outcome::put(word, 1) & outcome::put_change(area, &a)
 }
 
+fn export(given: &[u8], w: &[u8; 64]) -> bool {
+    let list = words::slice(given, w, 2);
+    let mut out = [0u8; 40000];
+    run::copy(&mut out, list);
+    let n = list.len();
+    let word = ndushavire::ndushavire_export(
+        words::slice(given, w, 0),
+        words::slice(given, w, 1),
+        &mut out[..n],
+    );
+    outcome::put(word, 1) & outcome::put_change(list, &out)
+}
+
+fn import(given: &[u8], w: &[u8; 64]) -> bool {
+    let table = words::slice(given, w, 3);
+    let mut t = [0u8; 40000];
+    run::copy(&mut t, table);
+    let n = table.len();
+    let word = ndushavire::ndushavire_import(
+        words::slice(given, w, 0),
+        words::slice(given, w, 1),
+        words::slice(given, w, 2),
+        &mut t[..n],
+    );
+    outcome::put(word, 1) & outcome::put_change(table, &t)
+}
+
 fn sh_decide(given: &[u8], w: &[u8; 64]) -> bool {
     let buffer = words::slice(given, w, 3);
     let mut out = [0u8; 40000];
@@ -135,6 +162,8 @@ pub fn call(entry: u8, given: &[u8], w: &[u8; 64]) -> bool {
         5 => forward(given, w),
         6 => back(given, w),
         7 => take(given, w),
+        8 => export(given, w),
+        9 => import(given, w),
         10 => sh_decide(given, w),
         _ => false,
     }
