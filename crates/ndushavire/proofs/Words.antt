@@ -13,10 +13,14 @@ use Rattle.moving.specs.Outcomes.{AfterMove, came, forward, back}
 use Rattle.moving.specs.declared.Move.{Move}
 use Rattle.reporting.specs.Counts.{Reports}
 use Rattle.reporting.specs.Report.{reported}
+use Rattle.row_of_calls.specs.Leaves.{Rows}
+use Rattle.row_of_calls.specs.Row.{rowed}
+use Rattle.row_of_calls.specs.declared.Ended.{Ended}
 use Rattle.taking.specs.TakeOver.{AfterTake, takeOver}
 use Rattle.taking.specs.TakeOver as taking
 use Rattle.taking.specs.declared.Taken.{Taken}
-use Rattle.ndushavire.specs.Word.{word, checkWord, callWord, moveWord, takeWord}
+use Rattle.ndushavire.specs.Word.{word, checkWord, callWord, moveWord, takeWord, endedWord}
+use Rattle.ndushavire.specs.Promise.{RowPromise}
 use Rattle.ndushavire.specs.Promise.{CheckPromise, CheckVectorsPromise, DecidePromise, ReportPromise, ForwardPromise, BackPromise, TakePromise}
 
 pub check-kept : (table profile : List ℕ) (c : Checked) (r : ℕ) → c ≡ checkArea table (length profile) → r ≡ checkWord 5 c → CheckPromise table profile r
@@ -62,3 +66,15 @@ back-promised table profile e f = record { word-is = f ∙ ap (λ (o : AfterMove
 pub take-promised : (area fresh profile : List ℕ) {t : Taken} {w : ℕ} {area' : List ℕ} → taking.came t area' ≡ takeOver area fresh (length profile)
     → w ≡ takeWord t → TakePromise area fresh profile w area'
 take-promised area fresh profile e f = record { word-is = f ∙ ap (λ (o : AfterTake). takeWord (o .taken)) e; area-is = ap (λ (o : AfterTake). o .area) e }
+
+-- The row.
+pub row-promised : (x : Lent) (words : List ℕ) {e : Ended} {w : ℕ} {t' v' a' words' : List ℕ} → Rows (rowed x words) e t' v' a' words' → w ≡ endedWord e
+    → RowPromise x words w t' v' a' words'
+row-promised x words s f =
+    record {
+      word-is = f ∙ rw (s .number-is, s .served-is, s .altered-is, s .marked-is);
+      table-is = s .table-is;
+      vectors-is = s .vectors-is;
+      answers-is = s .answers-is;
+      words-is = s .words-is;
+    }
