@@ -13,6 +13,9 @@ use Rattle.moving.specs.Outcomes.{AfterMove, came, forward, back}
 use Rattle.moving.specs.declared.Move.{Move}
 use Rattle.reporting.specs.Counts.{Reports}
 use Rattle.reporting.specs.Report.{reported}
+use Rattle.row_of_calls.specs.Leaves.{Rows}
+use Rattle.row_of_calls.specs.Row.{rowed}
+use Rattle.row_of_calls.specs.declared.Ended.{Ended}
 use Rattle.taking.specs.TakeOver.{AfterTake, takeOver}
 use Rattle.taking.specs.TakeOver as taking
 use Rattle.taking.specs.declared.Taken.{Taken}
@@ -20,9 +23,9 @@ use Rattle.listing.specs.Export.{AfterList, exported}
 use Rattle.listing.specs.Export as listing
 use Rattle.listing.specs.declared.Listed.{Listed}
 use Rattle.importing.specs.Import.{imported}
-use Rattle.ndushavire.specs.Word.{word, checkWord, callWord, moveWord, takeWord, listWord}
+use Rattle.ndushavire.specs.Word.{word, checkWord, callWord, moveWord, takeWord, listWord, endedWord}
 use Rattle.ndushavire.specs.Promise.{CheckPromise, CheckVectorsPromise, DecidePromise, ReportPromise, ForwardPromise, BackPromise, TakePromise}
-use Rattle.ndushavire.specs.Promise.{ExportPromise, ImportPromise}
+use Rattle.ndushavire.specs.Promise.{ExportPromise, ImportPromise, RowPromise}
 
 pub check-kept : (table profile : List ℕ) (c : Checked) (r : ℕ) → c ≡ checkArea table (length profile) → r ≡ checkWord 5 c → CheckPromise table profile r
 check-kept table profile c r e f = record { answer = f ∙ ap (checkWord 5) e }
@@ -78,3 +81,15 @@ pub import-promised : (list header profile table : List ℕ) {l : Listed} {w : �
     → listing.came l table' ≡ imported list header (length profile) table → w ≡ listWord l → ImportPromise list header profile table w table'
 import-promised list header profile table e f =
     record { word-is = f ∙ ap (λ (o : AfterList). listWord (o .said)) e; table-is = ap (λ (o : AfterList). o .area) e }
+
+-- The row.
+pub row-promised : (x : Lent) (words : List ℕ) {e : Ended} {w : ℕ} {t' v' a' words' : List ℕ} → Rows (rowed x words) e t' v' a' words' → w ≡ endedWord e
+    → RowPromise x words w t' v' a' words'
+row-promised x words s f =
+    record {
+      word-is = f ∙ rw (s .number-is, s .served-is, s .altered-is, s .marked-is);
+      table-is = s .table-is;
+      vectors-is = s .vectors-is;
+      answers-is = s .answers-is;
+      words-is = s .words-is;
+    }

@@ -38,7 +38,7 @@ IsRefusal (Answered a) = ⊥
 IsRefusal (Refused number besides) = Unit
 
 pub done-answered : (c : Came) (told : Told) {marked : Bool} → c ≡ came.Answered told → marked ≡ marksFrom (told .command) (told .result)
-    → _≡_ {A = Done} (record { length = told .length; altered = ltb 0 (told .altered); marked = marked }) (doneFrom c)
+    → _≡_ {A = Done} (record { used = told .length; altered = ltb 0 (told .altered); marked = marked }) (doneFrom c)
 done-answered c told e f = rw (e, f)
 
 module _ (x : Lent) where
@@ -67,21 +67,21 @@ module _ (x : Lent) where
 
   -- what the code adds to the row is what the definitions add
   record Adds (d : Done) : Type 0 where
-    length-is : d .length ≡ answerLength (serveTable x .call)
+    used-is : d .used ≡ answerLength (serveTable x .call)
     altered-is : d .altered ≡ ltb 0 (recordsAltered x)
     marked-is : d .marked ≡ not (same (x .vectors) (serveTable x .vectors))
 
   adds : (r : Came) {t' v' o' : List ℕ} → Leaves x (serveTable x) (checkValue (checkOf x)) r t' v' o' → Adds (doneFrom r)
   adds (came.Answered told) l =
       record {
-        length-is = ap answerLength (l .call-is);
+        used-is = ap answerLength (l .call-is);
         altered-is = rw (l .noted .2, l .table-is);
         marked-is = rw (l .noted .0, l .noted .1) (answered-marks (rw (← l .call-is) tt));
       }
   adds (came.Refused number besides) l =
       let k = refused-keeps (rw (← l .call-is) tt) in
       record {
-        length-is = ap answerLength (l .call-is);
+        used-is = ap answerLength (l .call-is);
         altered-is = sym (rw (k .0, altered-none (x .table) (checkValue (checkOf x))));
         marked-is = sym (rw (k .1, same-refl (x .vectors)));
       }
@@ -100,8 +100,8 @@ module _ (req t file v o : List ℕ) (terms : Terms) (c : Checked) (checked : c 
       let a : Adds x d = rw e (adds x r (rw checked at l)) in
       let sent : Wrote (longBytes (callWord (serveTable x .call))) words words' 8 = rw (l .call-is) at w in
       record {
-        length-is = a .length-is ∙ sym (ap (λ (y : Served). answerLength (y .call)) s);
-        within = rw (a .length-is) (answer-within x (ap length (sym (l .buffer-is)) ∙ kept));
+        used-is = a .used-is ∙ sym (ap (λ (y : Served). answerLength (y .call)) s);
+        within = rw (a .used-is, kept) (answer-within x (ap length (sym (l .buffer-is)) ∙ kept));
         altered-is = a .altered-is ∙ sym (ap (λ (y : Lent). ltb 0 (recordsAltered y)) only);
         marked-is = a .marked-is ∙ sym (ap (λ (y : Served). not (same v (y .vectors))) s);
         table-is = l .table-is ∙ sym (ap (λ (y : Served). y .table) s);

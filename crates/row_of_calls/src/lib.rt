@@ -6,7 +6,7 @@ use reading::Outcome;
 use reading::Terms;
 use reading::base;
 ghost use mathlib.Core.Path.{_≡_};
-ghost use Prim.Native.Nat.{_≤_};
+ghost use Prim.Native.Nat.{_≤_, _+_, _*_, _-_};
 ghost use lib.ListN.{length};
 ghost use Rattle.octets.specs.Run.{Wrote};
 ghost use Rattle.table.specs.Area.{sizeIn};
@@ -17,7 +17,7 @@ ghost use Rattle.calling.specs.Leaves.{callOf};
 ghost use Rattle.calling.specs.Lent.{lent};
 ghost use Rattle.row_of_calls.specs.Word.{word, callWord};
 ghost use Rattle.row_of_calls.specs.Row.{noRoom, rowed};
-ghost use Rattle.row_of_calls.specs.Leaves.{marksFrom, doneFrom, endedSo, Serves, Rows};
+ghost use Rattle.row_of_calls.specs.Leaves.{marksFrom, doneFrom, endedSo, Serves, ServesAt, Rows};
 
 // The two ways in which a row does not end well, by their numbers.
 const STOPPED: u16 = 7;
@@ -39,11 +39,18 @@ pub struct Ended {
     pub marked: bool,
 }
 
-// What one call adds: the bytes of its answer, whether it altered a record, whether it marked a vector.
+// What one call does: how many bytes of its area of answers are used then, whether it altered a record, whether it marked a vector.
 struct Done {
-    length: usize,
+    used: usize,
     altered: bool,
     marked: bool,
+}
+
+// Where a call stands in its row: what it shares with the others, and how many bytes of `answers` and how many words those before it have.
+struct Here {
+    shared: Shared,
+    used: usize,
+    served: usize,
 }
 
 // A MAR that succeeds, and nothing else, marks vectors.
@@ -56,7 +63,7 @@ fn marks(command: usize, result: Outcome) -> bool
     }
 }
 
-// What a call adds, from what is said of it.
+// What a call does, from what is said of it.
 fn done_of(c: Came) -> Done
     ensures { λ r. ⌜ r ≡ doneFrom c ⌝ }
 {
@@ -64,7 +71,7 @@ fn done_of(c: Came) -> Done
         Came::Answered(told) => {
             let result = told.result;
             Done {
-                length: told.length as usize,
+                used: told.length as usize,
                 altered: 0 < told.altered,
                 marked: marks(told.command, result),
             }
@@ -73,7 +80,7 @@ fn done_of(c: Came) -> Done
             number: _,
             besides: _,
         } => Done {
-            length: 0,
+            used: 0,
             altered: false,
             marked: false,
         },
@@ -120,11 +127,53 @@ fn serve_one(
     done_of(came)
 }
 
-// Whether there is no room for one more: in what is left of `answers`, of `words`, and of the words that a row may have.
-fn no_room(answers: usize, words: usize, most: usize) -> bool
-    ensures { λ r. ⌜ r ≡ noRoom answers words most ⌝ }
+// The byte behind an answer of so many bytes, which ends within its area.
+fn past(used: usize, own: usize, end: usize) -> usize
+    requires { ⌜ used + own ≤ end ⌝ }
+    ensures { λ r. ⌜ r ≡ used + own ⌝ }
 {
-    (answers < ROOM) | ((words < WORD) | (most == 0))
+    used + own
+}
+
+// The same, where it stands: its answer and its word go behind those of the calls before.
+fn serve_at(
+    h: Here,
+    req: &[u8],
+    t: &mut [u8],
+    file: &[u8],
+    v: &mut [u8],
+    answers: &mut [u8],
+    words: &mut [u8],
+) -> Done
+    requires { ⌜ (h .shared .table ≡ checkTable (now t) (length (now file))) × (h .shared .vectors ≡ checkVectors (now v)) × (length (now t) ≤ sizeIn (now t))
+        × (h .used ≤ length (now answers)) × (8 * h .served + 8 ≤ length (now words)) ⌝ }
+    ensures { λ r. ⌜ ServesAt (lent (now (req .entry)) (now (t .entry)) (now (file .entry)) (now (v .entry)) (now (answers .entry)) (h .shared .terms))
+        (now (words .entry)) (h .used) (h .served) r (now (t .exit)) (now (v .exit)) (now (answers .exit)) (now (words .exit)) ⌝ }
+{
+    let used = h.used;
+    let from = WORD * h.served;
+    let d = serve_one(
+        h.shared,
+        req,
+        t,
+        file,
+        v,
+        &mut answers[used..],
+        &mut words[from..],
+    );
+    Done {
+        used: past(used, d.used, answers.len()),
+        altered: d.altered,
+        marked: d.marked,
+    }
+}
+
+// Whether there is no room for one more: in what is left of `answers`, of `words`, and of the words that a row may have.
+fn no_room(answers: usize, words: usize, used: usize, served: usize) -> bool
+    requires { ⌜ (used ≤ answers) × (8 * served ≤ words) × (served ≤ 4294967295) ⌝ }
+    ensures { λ r. ⌜ r ≡ noRoom (answers - used) (words - 8 * served) (4294967295 - served) ⌝ }
+{
+    (answers - used < ROOM) | ((words - WORD * served < WORD) | (MOST - served == 0))
 }
 
 // How a row ends.
@@ -165,21 +214,17 @@ fn run(
         if n == 0 {
             return ends(STOPPED, served, altered, marked);
         }
-        let from = WORD * served;
-        if no_room(answers.len() - used, words.len() - from, MOST - served) {
+        if no_room(answers.len(), words.len(), used, served) {
             return ends(NO_ROOM, served, altered, marked);
         }
-        let d = serve_one(
-            k,
-            &requests[at..at + n],
-            t,
-            file,
-            v,
-            &mut answers[used..],
-            &mut words[from..],
-        );
+        let h = Here {
+            shared: k,
+            used,
+            served,
+        };
+        let d = serve_at(h, &requests[at..at + n], t, file, v, answers, words);
         at += n;
-        used += d.length;
+        used = d.used;
         served += 1;
         altered = altered | d.altered;
         marked = marked | d.marked;
