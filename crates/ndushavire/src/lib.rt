@@ -10,7 +10,9 @@ use moving::Move;
 use reading::Terms;
 use row_of_calls::Ended;
 use taking::Taken;
+ghost use mathlib.Core.Bool.{cond};
 ghost use mathlib.Core.Path.{_≡_};
+ghost use Prim.Native.Nat.{_≤_};
 ghost use Rattle.requests.specs.Request.{underCx};
 ghost use Rattle.calling.specs.Leaves.{callOf};
 ghost use Rattle.calling.specs.Lent.{lent};
@@ -206,12 +208,19 @@ pub extern "C" fn ndushavire_import(
     list_word(billing::import(list, header, profile.len(), table))
 }
 
+// A bit of a place, of such a value.
+fn bit(set: bool, value: u16) -> u16
+    ensures { λ r. ⌜ (r ≡ cond set value 0) × (r ≤ value) ⌝ }
+{
+    if set { value } else { 0 }
+}
+
 // The word of a row: what it altered is in the place, a bit for records and one for vectors.
 fn row_word(e: Ended) -> u64
     ensures { λ r. ⌜ r ≡ endedWord e ⌝ }
 {
-    let records = if e.altered { 1 } else { 0 };
-    let vectors = if e.marked { 2 } else { 0 };
+    let records = bit(e.altered, 1);
+    let vectors = bit(e.marked, 2);
     word::of(e.number, records + vectors, e.served)
 }
 

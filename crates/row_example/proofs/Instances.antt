@@ -38,17 +38,17 @@ use Rattle.row_of_calls.specs.Row.{Rowed, answerLength, alters, marks, next, ro
 use Rattle.row_of_calls.specs.Word.{callWord}
 use Rattle.worked_examples.proofs.Computed.{held, no-vectors}
 use Rattle.worked_examples.proofs.Sample.{block}
-use Rattle.report_example.proofs.Calls.{lir, removal, strayed, file, here, gone, messages, each, sound-here, sound-gone, lending, comes}
+use Rattle.report_example.proofs.Calls.{lir, removal, strayed, file, here, gone, each, sound-here, sound-gone, lending, comes}
 use Rattle.report_example.proofs.Cards.{mar, fresh}
 use Rattle.row_laws.specs.Reads.{rowIn, ReadsRow, alteredIn, markedIn}
-use Rattle.row_laws.specs.Turns.{servedOf, lentAfter, lentTo, AsksAbout, answersBy, written, goingOn, wordsLeft, joined, turnsOf}
+use Rattle.row_laws.specs.Turns.{servedOf, lentAfter, lentTo, AsksAbout, wordsBy, answersBy, answersLong, written, goingOn, wordsLeft, joined, turnsOf}
 use Rattle.row_laws.proofs.Ends.{row-few, area-room}
 use Rattle.row_laws.proofs.Ends as ends-of
 use Rattle.row_laws.proofs.Rows as rows
-use Rattle.row_example.proofs.Steps.{over-rest}
+use Rattle.row_example.proofs.Steps.{next-from}
 use Rattle.row_example.proofs.Small.{found, removed, opens, found-long, found-served, removed-served, area, words, area-long}
 use Rattle.row_example.proofs.Small.{words-long, month, month-is, alone}
-use Rattle.row_example.proofs.Small.{found-alters, removed-alters, file-pieces, lending-row, full-is}
+use Rattle.row_example.proofs.Small.{found-alters, removed-alters, served-four, big, lending-row, full-is}
 use Rattle.row_example.proofs.Dealt.{dealing, both, cards, cards-pieces, sent-served, sent-marks, cards-is}
 
 -- THE ROW: the month's word is read back as 7, with records altered and no vector marked, and 4 requests
@@ -74,23 +74,15 @@ met-meant : outcome ≡ rowIn (rowWord outcome) (outcome .table) (outcome .vecto
 met-meant = rows.row-meant month words promised
 
 -- IN ITS PLACE: the removal is the second of the month's four
-served-four : servedOf month words ≡ messages
-served-four = ap (λ (r : Rowed). take (r .served) (requestsOf month)) month-is ∙ ap (take 4) file-pieces
-
 abbrev second : InTurn (servedOf month words)
 second = record { before = lir ∷ []; request = removal; after = lir ∷ strayed ∷ []; is = served-four }
-
-big : 36864 ≤ length area
-big = omega (arith, area-long)
 
 big-left : 36864 ≤ length (drop 132 area)
 big-left = simp length-drop (omega (arith, area-long))
 
 after-found : lentAfter month (lir ∷ []) ≡ lent file here [] [] (drop 132 area) (underCx 3588 0)
-unfolding lentAfter next
-after-found =
-    ap (λ (s : Served). lent file (s .table) [] (s .vectors) (drop (answerLength (s .call)) (s .buffer)) (underCx 3588 0)) (found-served area big)
-    ∙ ap (λ (b : List ℕ). lent file here [] [] b (underCx 3588 0)) (over-rest found area 132 found-long)
+unfolding lentAfter
+after-found = next-from month lir found 132 here [] found-long (found-served area big)
 
 second-served : serve (lentTo month second) ≡ comes 116 gone (over removed (drop 132 area))
 second-served = ap (λ (y : Lent). serve (asking y removal)) after-found ∙ removed-served (drop 132 area) big-left
@@ -106,6 +98,10 @@ decided =
 
 met-lent : lentTo month second .buffer ≡ drop (length (answersBy month (lir ∷ []))) area
 met-lent = rows.row-lent month words second .0
+
+met-where : length (answersBy month (lir ∷ [])) ≡ 132
+unfolding wordsBy answersLong
+met-where = rows.row-where month words second ∙ ap (λ (s : Served). answersLong (callWord (s .call) ∷ [])) (found-served area big)
 
 met-word : take 8 (drop 8 (rowed month words .words)) ≡ longBytes 116
 met-word = rows.row-word month words second decided

@@ -1,6 +1,6 @@
 -- Small rows. The requests of report_example's month: where is `a`, its removal, where is it now, an answer that strayed into the file, and 3 bytes. And two
 -- MARs of one private identity over a file of one vector.
-use Rattle.octets.specs.Standard.{ℕ, _-_, _≤_, _<_, List, [], _∷_, true, false, _≡_, refl, ap, _∙_, arith, length, drop, length-drop}
+use Rattle.octets.specs.Standard.{ℕ, _-_, _≤_, _<_, List, [], _∷_, true, false, _≡_, refl, ap, _∙_, arith, length, take, drop, length-drop}
 use Rattle.octets.specs.Standard.{le-ltb, lt-ltb, replicate, length-replicate}
 use Rattle.octets.specs.Run.{over}
 use Rattle.pen.specs.Bytes.{vendorBytes, numberBytes}
@@ -12,10 +12,11 @@ use Rattle.calling.specs.Lent.{Lent, lent}
 use Rattle.calling.specs.Serve.{serve}
 use Rattle.calling.proofs.Areas.{serve-sound}
 use Rattle.reporting.specs.Pieces.{pieces}
-use Rattle.reporting.specs.Report.{ended}
+use Rattle.reporting.specs.Report.{requestsOf, ended}
 use Rattle.report_numbers.specs.File.{endToEnd}
 use Rattle.row_of_calls.specs.Row.{Rowed, alters, marks, ends, rowFrom, rowed}
 use Rattle.row_of_calls.specs.Word.{word}
+use Rattle.row_laws.specs.Turns.{servedOf}
 use Rattle.worked_examples.proofs.Computed.{come, no-vectors}
 use Rattle.worked_examples.proofs.Sample.{room, reply, answer, s}
 use Rattle.report_example.proofs.Calls.{lir, removal, strayed, messages, file, here, gone, all, sound-here, sound-gone, lending, comes}
@@ -74,7 +75,7 @@ module _ (b : List ℕ) (room : 36864 ≤ length b) where
   unfolding opens
   strayed-alters = altered-from (lending strayed gone b) _ strayed-served sound-gone
 
-  found-marks : marks (lending lir here b) ≡ false
+  pub found-marks : marks (lending lir here b) ≡ false
   unfolding opens
   found-marks = marked-from (lending lir here b) (comes 132 here (over found b)) found-served
 
@@ -95,11 +96,11 @@ pub found-long : length found ≡ 132
 unfolding opens
 found-long = refl
 
-removed-long : length removed ≡ 116
+pub removed-long : length removed ≡ 116
 unfolding opens
 removed-long = refl
 
-unknown-long : length unknown ≡ 136
+pub unknown-long : length unknown ≡ 136
 unfolding opens
 unknown-long = refl
 
@@ -218,6 +219,12 @@ month = lending-row area
 pub month-is : rowed month words ≡ small area words
 month-is = small-is area words (omega (arith, area-long)) (omega (arith, words-long))
 
+pub served-four : servedOf month words ≡ messages
+served-four = ap (λ (r : Rowed). take (r .served) (requestsOf month)) month-is ∙ ap (take 4) file-pieces
+
+pub big : 36864 ≤ length area
+big = omega (arith, area-long)
+
 -- one LIR, and one with room for no more
 abbrev pub alone : Lent
 alone = lending lir here area
@@ -225,6 +232,9 @@ alone = lending lir here area
 abbrev pub tight : Lent
 tight = lending lir here room
 
-pub room-long : 36864 ≤ length room
+pub room-most : length room ≡ 36864
 unfolding room
-room-long = let e : length {A = ℕ} (replicate 36864 0) ≡ 36864 = length-replicate {A = ℕ} 36864 0 in omega (arith, e)
+room-most = length-replicate {A = ℕ} 36864 0
+
+pub room-long : 36864 ≤ length room
+room-long = omega (arith, room-most)

@@ -77,6 +77,14 @@ module _ (end : ℕ) (x : Lent) (words : List ℕ) (most : ℕ) (p : List ℕ) (
       → rowFrom end x words most (p ∷ ps) ≡ after [] (word n 0 0) a m (rowFrom end x (drop 8 words) (most - 1) ps)
   refused-step n a m e f g = called _ e ∙ rw (f, g)
 
+-- what an answered one leaves to the next
+pub next-from : (x : Lent) (p bytes : List ℕ) (n : ℕ) (t v : List ℕ) → length bytes ≡ n → serve (asking x p) ≡ leaves n t v (over bytes (x .buffer))
+    → next x p ≡ lent (x .request) t (x .profile) v (drop n (x .buffer)) (x .terms)
+unfolding next
+next-from x p bytes n t v l e =
+    ap (λ (s : Served). lent (x .request) (s .table) (x .profile) (s .vectors) (drop (answerLength (s .call)) (s .buffer)) (x .terms)) e
+    ∙ ap (λ (b : List ℕ). lent (x .request) t (x .profile) v b (x .terms)) (over-rest bytes (x .buffer) n l)
+
 -- none has room
 pub full-step : (end : ℕ) (x : Lent) (words : List ℕ) (most : ℕ) (p : List ℕ) (ps : List (List ℕ)) → ltb (length (x .buffer)) 36864 ≡ true
     → rowFrom end x words most (p ∷ ps) ≡ ends 15 x words

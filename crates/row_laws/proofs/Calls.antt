@@ -20,13 +20,13 @@ use Rattle.calling.proofs.Kept.{serve-either}
 use Rattle.rewrite.specs.Keeps.{alterable}
 use Rattle.ndushavire.specs.Reads.{callNumber, callValue}
 use Rattle.demands.specs.Frame.{subscriptionOf}
-use Rattle.demands.proofs.Demands.{demand-1-within, demand-2-room, demand-2-size, demand-2-others, demand-2-sound}
+use Rattle.demands.proofs.Demands.{demand-1-within, demand-1-word, demand-2-room, demand-2-size, demand-2-others, demand-2-sound}
 use Rattle.demands.proofs.Demands.{demand-2-header, demand-2-bytes, demand-2-bits}
 use Rattle.row_of_calls.specs.Row.{answerLength, next}
 use Rattle.row_of_calls.specs.Word.{callWord}
 use Rattle.report_numbers.specs.Turns.{InTurn}
 use Rattle.vectors_sent.specs.Row.{leftBy}
-use Rattle.row_laws.specs.Turns.{lentAfter, lentTo, AsksAbout, wordsBy, answersBy, turnsOf}
+use Rattle.row_laws.specs.Turns.{lentAfter, lentTo, AsksAbout, wordsBy, answersBy, answersLong, turnsOf}
 
 -- ONE CALL: its answer lies within the buffer, and behind it the buffer is as it came.
 module _ (y : Lent) where
@@ -77,6 +77,19 @@ pub words-count : (x : Lent) (ps : List (List ℕ)) → length (wordsBy x ps) �
 unfolding wordsBy
 words-count x [] = refl
 words-count x (p ∷ ps) = ap suc (words-count (next x p) ps)
+
+pub answers-long : (x : Lent) (ps : List (List ℕ)) → length (answersBy x ps) ≡ answersLong (wordsBy x ps)
+unfolding answersBy wordsBy answersLong
+answers-long x [] = refl
+answers-long x (p ∷ ps) =
+    let y = asking x p in
+    omega (
+      arith,
+      length-append (take (answerLength (serve y .call)) (serve y .buffer)) (answersBy (next x p) ps),
+      answer-length y,
+      ap (λ (c : Call). answerLength c) (demand-1-word y .call),
+      answers-long (next x p) ps,
+    )
 
 -- What holds of what is lent, and is left by every call, holds of what is left.
 pub carried : (P : Lent → Type 0) → ((y : Lent) (p : List ℕ) → P y → P (next y p)) → (x : Lent) (ps : List (List ℕ)) → P x → P (lentAfter x ps)

@@ -32,7 +32,7 @@ use Rattle.report_numbers.specs.Turns.{InTurn}
 use Rattle.row_of_calls.specs.Row.{Rowed, answerLength, alters, marks, ends, next, rowed}
 use Rattle.row_of_calls.specs.Word.{callWord}
 use Rattle.row_laws.specs.Reads.{rowIn, ReadsRow}
-use Rattle.row_laws.specs.Turns.{servedOf, lentAfter, lentTo, AsksAbout, wordsBy, answersBy, someAlters, someMarks, written}
+use Rattle.row_laws.specs.Turns.{servedOf, lentAfter, lentTo, AsksAbout, wordsBy, answersBy, answersLong, someAlters, someMarks, written}
 use Rattle.row_laws.specs.Turns.{behind, goingOn, wordsLeft, joined, turnsOf}
 use Rattle.row_laws.proofs.Calls as calls
 use Rattle.row_laws.proofs.Ends as ending
@@ -79,6 +79,10 @@ module _ (x : Lent) (ws : List ℕ) where
         × (lentTo x p .terms ≡ x .terms)
     row-lent = (calls.after-buffer x (p .before), calls.after-alike x (p .before) .profile, calls.after-alike x (p .before) .terms)
 
+    -- Where they end, and its own answer begins, the words before it tell.
+    pub row-where : length (answersBy x (p .before)) ≡ answersLong (wordsBy x (p .before))
+    row-where = calls.answers-long x (p .before)
+
     -- Its 8 bytes in `words` are the word that `ndushavire_decide` returns, lent that; its answer, if it has one, stands in `answers` as that call leaves it
     -- in its buffer; and what it leaves is lent to the one behind it.
     module _ {r : ℕ} {t v o : List ℕ} (d : DecidePromise (lentTo x p) r t v o) where
@@ -94,6 +98,10 @@ module _ (x : Lent) (ws : List ℕ) where
       row-next =
           let e = calls.after-append x (p .before) (p .request ∷ []) in
           (ap (λ (y : Lent). y .table) e ∙ sym (d .table-is), ap (λ (y : Lent). y .vectors) e ∙ sym (d .vectors-is))
+
+  -- So do all words of all that was written to `answers`.
+  pub row-written : written x ws ≡ answersLong (wordsBy x (servedOf x ws))
+  row-written = calls.answers-long x (servedOf x ws)
 
   -- WHERE IT ENDS. By 15 exactly if some request of the file has no word; then there is no room for it: fewer than 36,864 bytes are left in `answers`, or fewer
   -- than 8 in `words`, or 4,294,967,295 words are written, which are never exceeded.

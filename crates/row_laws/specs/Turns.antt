@@ -10,6 +10,7 @@ use Rattle.table.specs.Named.{privateAt}
 use Rattle.counting.specs.Words.{wordsBytes}
 use Rattle.calling.specs.Lent.{Lent, lent, asking, dialectIn}
 use Rattle.calling.specs.Serve.{serve}
+use Rattle.ndushavire.specs.Reads.{callIn}
 use Rattle.demands.specs.Frame.{subscriptionOf}
 use Rattle.reporting.specs.Report.{requestsOf}
 use Rattle.row_of_calls.specs.Row.{Rowed, answerLength, alters, marks, next, rowed}
@@ -43,6 +44,11 @@ wordsBy x (p ∷ ps) = callWord (serve (asking x p) .call) ∷ wordsBy (next x p
 unfoldable pub answersBy : Lent → List (List ℕ) → List ℕ
 answersBy x [] = []
 answersBy x (p ∷ ps) = take (answerLength (serve (asking x p) .call)) (serve (asking x p) .buffer) ++ answersBy (next x p) ps
+
+-- how many bytes the answers have that words tell of
+unfoldable pub answersLong : List ℕ → ℕ
+answersLong [] = 0
+answersLong (w ∷ ws) = answerLength (callIn w) + answersLong ws
 
 -- whether a test holds of one of the calls: whether one altered a record, and whether one marked a vector
 unfoldable pub someCall : (Lent → Bool) → Lent → List (List ℕ) → Bool

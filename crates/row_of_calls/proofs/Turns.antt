@@ -11,7 +11,7 @@ use Rattle.vectors.specs.VectorFile.{checkVectors}
 use Rattle.reading.specs.declared.Terms.{Terms}
 use Rattle.counting.specs.Words.{longBytes}
 use Rattle.counting.proofs.Longs.{long-length}
-use Rattle.deciding.proofs.Tests.{neither}
+use Rattle.refusals.proofs.Passing.{neither}
 use Rattle.calling.specs.Lent.{Lent, lent, asking}
 use Rattle.calling.specs.Serve.{Served, serve, serveTable}
 use Rattle.calling.proofs.Areas.{AsLarge, serve-exact, served-large}
