@@ -1,5 +1,5 @@
 -- The word of each answer, and the promise from its parts.
-use Rattle.octets.specs.Standard.{ℕ, _+_, Bool, true, false, cond, _≡_, _∙_, ap, List, length}
+use Rattle.octets.specs.Standard.{ℕ, Bool, true, false, cond, _≡_, _∙_, ap, List, length}
 use Rattle.table.specs.Area.{checkArea}
 use Rattle.blocks.specs.declared.Checked.{Checked}
 use Rattle.vectors.specs.VectorFile.{checkVectors}
@@ -88,10 +88,6 @@ bit-set b n e = rw e
 
 pub bit-clear : (b : Bool) (n : ℕ) → b ≡ false → 0 ≡ cond b n 0
 bit-clear b n e = rw e
-
-pub ended-word : (e : Ended) {records vectors w : ℕ} → records ≡ cond (e .altered) 1 0 → vectors ≡ cond (e .marked) 2 0
-    → w ≡ word (e .number) (records + vectors) (e .served) → w ≡ endedWord e
-ended-word e f g h = h ∙ rw (f, g)
 
 pub row-promised : (x : Lent) (words : List ℕ) {e : Ended} {w : ℕ} {t' v' a' words' : List ℕ} → Rows (rowed x words) e t' v' a' words' → w ≡ endedWord e
     → RowPromise x words w t' v' a' words'

@@ -62,8 +62,8 @@ next-over : (x : Lent) (p : List ℕ) → tableOnly (next x p) ≡ next (tableOn
 unfolding next
 next-over x p =
     ap
-    (λ (t : List ℕ). lent (x .request) t (x .profile) (serve (asking x p) .vectors) (drop (answerLength (serve (asking x p) .call)) (serve (asking x p) .buffer))
-    (x .terms))
+    (λ (t : List ℕ). lent (x .request) t (x .profile) (serve (asking x p) .vectors)
+    (drop (answerLength (serve (asking x p) .call)) (serve (asking x p) .buffer)) (x .terms))
     (served-in (asking x p))
     ∙ ap (λ (s : Served). lent (x .request) (s .table) (x .profile) (s .vectors) (drop (answerLength (s .call)) (s .buffer)) (x .terms))
     (sym (alone (asking x p)))

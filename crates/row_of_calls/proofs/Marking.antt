@@ -1,5 +1,5 @@
 -- A call marks vectors, so that the vector file has other bytes, where it is a MAR that succeeds, and nowhere else.
-use Rattle.octets.specs.Standard.{ℕ, _/_, _<_, min, List, [], _∷_, Bool, true, false, not, _&&_, true≢false, _≡_, refl, sym, ap, _∙_, arith, length, getD}
+use Rattle.octets.specs.Standard.{ℕ, _/_, _<_, List, [], _∷_, Bool, true, false, not, _&&_, _≡_, refl, sym, ap, _∙_, arith, length, getD}
 use Rattle.octets.specs.Standard.{eqb, eq-eqb, eqb-true}
 use Rattle.octets.specs.Name.{same}
 use Rattle.octets.proofs.All.{and-left}

@@ -18,9 +18,6 @@ module _ (s : List ℕ) (n : ℕ) where
       ap (λ (r : List ℕ). take n s ++ (t ++ r)) z ∙ ap (λ (r : List ℕ). take n s ++ r) (append-nil t)
 
 module _ (req t file v a : List ℕ) (terms : Terms) (w : List ℕ) (used served : ℕ) where
-  pub part-room : 8 * served + 8 ≤ length w → 8 ≤ length (part (8 * served) w)
-  part-room h = let l : length (part (8 * served) w) ≡ length w - 8 * served = ap length (part-is w (8 * served)) ∙ length-drop (8 * served) w in omega (arith, l)
-
   pub part-used : {d : Done} {t' v' a' w' w₀ : List ℕ} → used ≤ length a → Serves (lent req t file v (part used a) terms) w₀ d t' v' a' w'
       → used + d .used ≤ length (back used a a')
   part-used {a' = a'} h q =

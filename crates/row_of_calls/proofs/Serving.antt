@@ -1,5 +1,5 @@
 -- One request of a row: the call over a table of the exact length, made from what the checks said before.
-use Rattle.octets.specs.Standard.{ℕ, _+_, _≤_, List, Bool, false, not, _≡_, refl, sym, ap, _∙_, subst, arith, length, drop, length-append, ltb}
+use Rattle.octets.specs.Standard.{ℕ, _+_, _≤_, List, Bool, not, _≡_, refl, sym, ap, _∙_, subst, arith, length, drop, length-append, ltb}
 use Rattle.octets.specs.Name.{same}
 use Rattle.octets.specs.Run.{over, Wrote}
 use Rattle.octets.proofs.Names.{same-refl}
@@ -12,7 +12,7 @@ use Rattle.reading.specs.declared.Terms.{Terms}
 use Rattle.counting.specs.Words.{longBytes}
 use Rattle.diameter.specs.Message.{commandOf}
 use Rattle.deciding.specs.declared.Told.{Told}
-use Rattle.calling.specs.Call.{Call, Answer, Answered, Refused}
+use Rattle.calling.specs.Call.{Call, Answered, Refused}
 use Rattle.calling.specs.Lent.{Lent, lent, holding, tableOnly}
 use Rattle.refusals.specs.Early.{checkValue}
 use Rattle.calling.specs.Serve.{Served, checkOf, refused, answerOf, answeredBy, decided, resultOf, serveTable, serve}
@@ -22,7 +22,7 @@ use Rattle.calling.proofs.Areas.{serve-exact}
 use Rattle.calling.proofs.Kept.{serve-by}
 use Rattle.reporting.specs.Row.{recordsAltered}
 use Rattle.row_of_calls.specs.Word.{callWord}
-use Rattle.row_of_calls.specs.Row.{answerLength, alters, marks}
+use Rattle.row_of_calls.specs.Row.{answerLength}
 use Rattle.row_of_calls.specs.Leaves.{marksFrom, doneFrom, Serves}
 use Rattle.row_of_calls.specs.declared.Done.{Done}
 use Rattle.row_of_calls.proofs.Marking.{decided-marks}
@@ -45,7 +45,8 @@ module _ (x : Lent) where
   -- a refusal leaves the table and the vectors as they came
   refused-keeps : IsRefusal (serveTable x .call) → (serveTable x .table ≡ x .table) × (serveTable x .vectors ≡ x .vectors)
   unfolding refused answeredBy
-  refused-keeps = serve-by x (λ (s : Served). IsRefusal (s .call) → (s .table ≡ x .table) × (s .vectors ≡ x .vectors)) (λ r a b h. (refl, refl)) (λ k h. absurd h)
+  refused-keeps =
+      serve-by x (λ (s : Served). IsRefusal (s .call) → (s .table ≡ x .table) × (s .vectors ≡ x .vectors)) (λ r a b h. (refl, refl)) (λ k h. absurd h)
 
   -- an answer marks vectors by its command and result
   answered-marks : IsAnswer (serveTable x .call)

@@ -1,7 +1,7 @@
 -- The turns of a row: what is behind and what is to come make the whole.
-use Rattle.octets.specs.Standard.{ℕ, suc, _+_, _-_, _*_, _≤_, _<_, List, [], _∷_, _++_, Bool, true, false, _||_, or-false, or-assoc, _≡_, refl, sym, ap, _∙_}
-use Rattle.octets.specs.Standard.{append-assoc, append-nil, zero-add, arith, length, take, drop, length-append, length-take, length-take-le, length-drop, drop-drop, drop-at}
-use Rattle.octets.specs.Standard.{drop-of-length-le, take-all, take-at, take-add, take-append-drop, eq-eqb, ne-eqb, eqb-false, leb, leb-true, leb-false}
+use Rattle.octets.specs.Standard.{ℕ, _+_, _-_, _*_, _≤_, _<_, List, [], _∷_, _++_, Bool, true, false, _||_, or-false, or-assoc, _≡_, refl, sym, ap, _∙_}
+use Rattle.octets.specs.Standard.{append-assoc, zero-add, arith, length, take, drop, length-take, length-take-le, length-drop, drop-drop, drop-at}
+use Rattle.octets.specs.Standard.{take-at, take-add, take-append-drop, eq-eqb, ne-eqb, eqb-false, leb, leb-true, leb-false}
 use Rattle.octets.specs.Standard.{eqb, ltb, ltb-false}
 use Rattle.octets.specs.Run.{over}
 use Rattle.blocks.specs.declared.Checked.{Checked}
@@ -19,7 +19,7 @@ use Rattle.calling.proofs.Kept.{table-checked, vectors-checked}
 use Rattle.reporting.specs.Pieces.{pieces, totalOf, stopOf}
 use Rattle.reporting.specs.Report.{ended}
 use Rattle.reporting.specs.Run.{firstLength}
-use Rattle.reporting.proofs.Cutting.{first-least, first-cut, first-none, past-none}
+use Rattle.reporting.proofs.Cutting.{first-cut, first-none, past-none}
 use Rattle.reporting.proofs.Turns.{here, piece-is, turn-within}
 use Rattle.row_of_calls.specs.Word.{callWord}
 use Rattle.row_of_calls.specs.Row.{Rowed, answerLength, alters, marks, noRoom, ends, next, before, rowFrom, rowed}

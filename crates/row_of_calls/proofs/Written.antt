@@ -1,5 +1,5 @@
 -- The word of a call as bytes: the number and the place in its first four, the value in its last four.
-use Rattle.octets.specs.Standard.{ℕ, _+_, _*_, _/_, _%_, _≤_, _<_, List, [], _∷_, _≡_, refl, ap, _∙_, arith, length}
+use Rattle.octets.specs.Standard.{ℕ, _+_, _*_, _/_, _%_, _≤_, _<_, List, [], _∷_, _≡_, arith, length}
 use Rattle.octets.specs.Number.{putBe32}
 use Rattle.octets.specs.Run.{Wrote}
 use Rattle.octets.proofs.Writes.{over-sets}
@@ -11,8 +11,8 @@ use Rattle.row_of_calls.specs.Word.{word, callWord}
 use Rattle.calling.specs.declared.Came.the-variants as came
 
 -- a byte of the lower half
-low : (h v k : ℕ) → (h * 256 + v) % 256 ≡ v % 256
-low h v k = omega arith
+low : (h v : ℕ) → (h * 256 + v) % 256 ≡ v % 256
+low h v = omega arith
 
 module _ (h v : ℕ) (small : v < 4294967296) where
   abbrev w : ℕ
@@ -31,13 +31,13 @@ module _ (h v : ℕ) (small : v < 4294967296) where
   fifth = omega arith
 
   fourth : w / 16777216 % 256 ≡ v / 16777216 % 256
-  fourth = let q : w / 16777216 ≡ h * 256 + v / 16777216 = omega arith in rw q (low h (v / 16777216) 0)
+  fourth = let q : w / 16777216 ≡ h * 256 + v / 16777216 = omega arith in rw q (low h (v / 16777216))
 
   third : w / 65536 % 256 ≡ v / 65536 % 256
-  third = let q : w / 65536 ≡ h * 256 * 256 + v / 65536 = omega arith in rw q (low (h * 256) (v / 65536) 0)
+  third = let q : w / 65536 ≡ h * 256 * 256 + v / 65536 = omega arith in rw q (low (h * 256) (v / 65536))
 
   second : w / 256 % 256 ≡ v / 256 % 256
-  second = let q : w / 256 ≡ h * 65536 * 256 + v / 256 = omega arith in rw q (low (h * 65536) (v / 256) 0)
+  second = let q : w / 256 ≡ h * 65536 * 256 + v / 256 = omega arith in rw q (low (h * 65536) (v / 256))
 
   first : w % 256 ≡ v % 256
   first = omega arith
