@@ -4,7 +4,7 @@
 A check is a target of the Makefile, run in rounds: the first is a small one, each next one as much larger as fits into the share, with the next seed. Each
 round's command is told, which runs it again. At the end stands what each check covered, in whole rounds. All of it is also in target/long.txt, which begins with
 the command that runs the same seeds again. Status 0 if every round was right and every check had one; 1 if a round failed, or a check had no time for one."""
-import collections, os, re, signal, subprocess, sys, time
+import collections, glob, os, re, signal, subprocess, sys, time
 
 NOTES = 'target/long.txt'
 ENDING = 3  # seconds kept back, in which a round that is cut ends what it started
@@ -82,16 +82,26 @@ class Run:
         return covered, number
 
 
-def end_group(process):
-    """A round's own processes are one group. A script in it ends what it started."""
-    for number, patience in (signal.SIGTERM, ENDING - 1), (signal.SIGKILL, None):
+def is_running(group):
+    """Whether a process of the group is there, and more than an entry that nobody has read."""
+    for stat in glob.glob('/proc/[0-9]*/stat'):
         try:
-            os.killpg(process.pid, number)
-            process.wait(patience)
-        except ProcessLookupError:
-            return
-        except subprocess.TimeoutExpired:
+            state, _, of = open(stat).read().rpartition(')')[2].split()[:3]
+        except (FileNotFoundError, ProcessLookupError):
             continue
+        if int(of) == group and state not in 'ZX':
+            return True
+    return False
+
+
+def end_group(process):
+    """A round's own processes are one group. A script in it ends what it started, for which it has time."""
+    until = time.monotonic() + ENDING - 1
+    os.killpg(process.pid, signal.SIGTERM)
+    while is_running(process.pid) and time.monotonic() < until:
+        time.sleep(0.02)
+    os.killpg(process.pid, signal.SIGKILL)  # the first of the group is not waited for yet, so there is one
+    process.wait()
 
 
 def main():

@@ -10,7 +10,7 @@ cat >"$room/bin/make" <<'END'
 for word; do case $word in [A-Z]*=*) export "$word" ;; esac; done
 echo "$2 $SEED $COUNT_DEFINITIONS$COUNT_round" >>"$ROOM/asked"
 case $2 in
-"$SLOW") sleep 86400 ;;
+"$SLOW") "$ROOM/tests/within.sh" "$ROOM/cut" sh -c 'seq 20000 | (cd "$TMPDIR" && xargs touch) && sleep 86400' ;;
 "$FAILS") echo 'a difference'; exit 2 ;;
 "$SILENT") exit 0 ;;
 mutants) echo '12 of 12 faults noticed' ;;
@@ -49,10 +49,11 @@ says "long: soak: $(awk '$1 == "soak" { cases += 4 * $3 } END { print cases }' "
 says 'long: all right; make long SECONDS=10 SEED=500 runs these seeds again'
 for wrong in FAILS SILENT SLOW; do
     export "$wrong=plain"
-    long 1 8
+    long 1 10
     says 'long: plain: NOTHING'
     says 'long: not right, or without time for a round: plain; .*'
     says 'long: soak: .* calls of Sh; .*'
+    [ ! -e "$room/cut" ] || fail 'what a round that was cut put aside is left'
     export "$wrong="
 done
 echo "long.sh: $tried runs of make long, each within its time, and each told as it was"
