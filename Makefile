@@ -14,7 +14,7 @@ endif
 export PYTHONDONTWRITEBYTECODE := 1
 .PHONY: help run test quick clean fmt kit pages header examples tables texts aims stores programs reference installs cited narrow bench served stack installable install uninstall
 .PHONY: unsound reports moves takes cuts recipes daemon peers differential plain rows noticed soak mutants stats definitions-check cases
-.PHONY: voicemail documents parsed promises spreadsheet
+.PHONY: voicemail documents parsed promises spreadsheet long ends
 
 MACHINE := $(shell uname -m)
 ifeq ($(MACHINE),x86_64)
@@ -76,8 +76,10 @@ target/bin/%: $(PROVED)
 
 # The parts of make test, the longest first. What they need is made before, once, and what needs the archive waits for it alone.
 PARTS := stores differential daemon reference tables narrow texts examples installs recipes cited programs noticed takes pages kit fmt header aims unsound reports moves \
-    documents voicemail promises
+    documents voicemail promises ends
 MADE := $(ARCHIVES) $(BINARY)
+# A script of the tests in a room of its name.
+in_room = RUN='$(RUN)' tests/$(1).sh target/test/$(1)
 JOBS := $(shell nproc)
 #: test               every test from fmt to noticed below, as many at a time as there are processors (JOBS=N): 3 to 5 minutes on two once all is proved
 test:
@@ -98,12 +100,17 @@ fmt:
 kit:
 	tests/kit.sh target/test/kit
 
+#: ends               whether whatever a test starts ends with it, also when it fails or is told to end; whether make long keeps its time and tells what it covered
+ends:
+	tests/ends.sh target/test/ends
+	tests/long.sh target/test/long.sh
+
 #: pages              the worked table of docs/TABLE.md; what the pages say of commands and versions, quote of the sources and name in them; whether a stale one is noticed
 pages: target/c/maketable target/c/showtable
 	tests/worked-table.sh target/test/worked-table target/c/maketable target/c/showtable
 	tests/pages.sh
 	tests/pages.py
-	tests/stale-pages.py target/test/pages
+	tests/within.sh target/test/pages tests/stale-pages.py target/test/pages
 
 #: header             the C headers by themselves, in C and in C++; the version that library, headers, programs, pkg-config and README say
 header: target/c/header target/c++/header target/c99/version
@@ -114,23 +121,23 @@ header: target/c/header target/c++/header target/c99/version
 promises: $(ARCHIVES)
 	tests/promises.py
 	tests/plain.py
-	RUN='$(RUN)' tests/symbols.sh target/test/symbols $(ARCHIVE) $(SH_ARCHIVE) $(X86_CC)
+	$(call in_room,symbols) $(ARCHIVE) $(SH_ARCHIVE) $(X86_CC)
 
 #: examples           the C examples: worked answers, refusals, AVPs at fault, requests that real software sent, a voicemail box, the month's numbers, moves, take-overs, lists
 examples: $(foreach mode,c99 cxx,$(addprefix target/$(mode)/,check decide userdata list move report take)) target/c99/cut-take target/c/fault target/c++/fault target/c/maketable target/c/showtable $(BINARY)
 	for fault in target/c/fault target/c++/fault; do $$fault; done
-	RUN='$(RUN)' tests/decide.sh target/test/decide target/c/maketable target/c99/decide target/cxx/decide
-	RUN='$(RUN)' tests/captured.sh target/test/captured target/c/maketable $(BINARY) target/c99/decide target/cxx/decide
-	RUN='$(RUN)' tests/userdata.sh target/test/userdata target/c/maketable target/c99/userdata target/cxx/userdata
-	RUN='$(RUN)' tests/report.sh target/test/report target/c/maketable target/c99/report target/cxx/report
-	RUN='$(RUN)' tests/move.sh target/test/move target/c/maketable target/c/showtable target/c99/check target/c99/move target/cxx/move
-	RUN='$(RUN)' tests/take.sh target/test/take target/c/maketable target/c99/check target/c99/cut-take target/c99/take target/cxx/take
-	RUN='$(RUN)' tests/list.sh target/test/list target/c/maketable target/c99/check target/c99/list target/cxx/list
+	$(call in_room,decide) target/c/maketable target/c99/decide target/cxx/decide
+	$(call in_room,captured) target/c/maketable $(BINARY) target/c99/decide target/cxx/decide
+	$(call in_room,userdata) target/c/maketable target/c99/userdata target/cxx/userdata
+	$(call in_room,report) target/c/maketable target/c99/report target/cxx/report
+	$(call in_room,move) target/c/maketable target/c/showtable target/c99/check target/c99/move target/cxx/move
+	RUN='$(RUN)' tests/take.sh target/c/maketable target/c99/check target/c99/cut-take target/c99/take target/cxx/take
+	$(call in_room,list) target/c/maketable target/c99/check target/c99/list target/cxx/list
 
 #: tables             tables and vector files made from text, and damaged ones
 tables: target/c99/check target/cxx/check target/c/maketable target/c/showtable
-	RUN='$(RUN)' tests/tables.sh target/test/tables target/c/maketable target/c/showtable target/c99/check target/cxx/check
-	RUN='$(RUN)' tests/vectors.sh target/test/vectors target/c/maketable target/c/showtable target/c99/check target/cxx/check
+	$(call in_room,tables) target/c/maketable target/c/showtable target/c99/check target/cxx/check
+	$(call in_room,vectors) target/c/maketable target/c/showtable target/c99/check target/cxx/check
 
 COUNT_texts := 2000
 #: texts              from a table or a vector file to text and back, over 2,000 random ones of each; 15 seconds. COUNT_texts=N for more
@@ -143,8 +150,8 @@ aims: target/c/aims
 
 #: stores             store.h by itself, the daemon that ndushavire(3) shows and that of the examples, on a disk that fails
 stores: target/c/store target/c++/store target/c/maketable $(ARCHIVES)
-	for store in target/c/store target/c++/store; do rm -rf target/test/store; mkdir -p target/test/store; $$store target/test/store; done
-	RUN='$(RUN)' tests/daemon.sh target/test/daemon target/c/maketable '$(ARCHIVES)' $(X86_CC)
+	for store in target/c/store target/c++/store; do tests/within.sh target/test/store $$store target/test/store; done
+	$(call in_room,daemon) target/c/maketable '$(ARCHIVES)' $(X86_CC)
 
 #: programs           arguments of the programs answer and tablecheck
 programs: target/bin/answer target/bin/tablecheck target/c/maketable
@@ -167,11 +174,7 @@ documents: target/c99/driver
 COUNT_months := 5000
 #: reports            the report beside as many decisions, over 5,000 random files of requests; SEED=N runs a seed again
 reports: target/c99/month target/c/maketable
-	@mkdir -p target/test/reports
-	target/c/maketable table examples/households.txt >target/test/reports/table
-	target/c/maketable profile examples/households.txt >target/test/reports/profile
-	target/c/maketable vectors examples/vectors.txt >target/test/reports/vectors
-	$(RUN) $< $(addprefix target/test/reports/,table profile vectors) $(SEED) $(COUNT_months)
+	$(call in_room,reports) target/c/maketable $< $(SEED) $(COUNT_months)
 
 COUNT_moved := 10000
 #: moves              the moves between editions beside a model in C, and requests over either edition, over 10,000 random tables; SEED=N runs a seed again
@@ -188,7 +191,7 @@ takes: target/c99/takes target/c99/cuts target/c99/take target/c99/cut-take
 #: daemon             the daemon of the examples with a client of its own: cut frames, garbage, slow peers, new tables, kills; 1 to 3 minutes
 daemon: target/c/remember target/c/maketable $(ARCHIVES)
 	$< $(SEED) 20000
-	RUN='$(RUN)' tests/served.sh target/test/served target/c/maketable '$(ARCHIVES)' $(X86_CC)
+	$(call in_room,served) target/c/maketable '$(ARCHIVES)' $(X86_CC)
 
 #: reference          the independent program's own tests
 reference:
@@ -196,7 +199,7 @@ reference:
 
 #: installs           an installation into a folder of its own, and an example built from there as a new user would
 installs: $(ARCHIVES) $(PROGRAMS)
-	RUN='$(RUN)' tests/installs.sh target/test/installs $(X86_CC)
+	$(call in_room,installs) $(X86_CC)
 
 # ---- the libraries beside the independent program, on new cases each time; SEED=N on the command line runs a seed again
 ifndef SEED
@@ -222,11 +225,11 @@ COUNT_runs := 2000
 
 #: cited              whether what README and manual pages of an installation cite is installed, and its trial works
 cited: $(ARCHIVES) $(PROGRAMS)
-	RUN='$(RUN)' tests/cited.sh target/test/cited $(X86_CC)
+	$(call in_room,cited) $(X86_CC)
 
 #: recipes            every command and script that a page prints, on the one layout, in the order in which an operator meets them
 recipes: $(ARCHIVES) $(PROGRAMS) $(OVER_ARCHIVE) target/c99/decide target/c99/userdata
-	RUN='$(RUN)' tests/recipes.sh target/test/recipes '$(PROGRAM)' $(X86_CC)
+	$(call in_room,recipes) '$(PROGRAM)' $(X86_CC)
 
 #: differential       the libraries beside the independent program on 900,000 new cases, of which 20,000 go to both engines, and 2,000 runs of calls; SEED=N runs a seed again
 differential: target/c99/driver $(BINARY)
@@ -260,16 +263,18 @@ rows: target/c99/driver $(BINARY)
 	@echo "rows: seed $(SEED), $(COUNT_compared) rows"
 	$(BINARY) compare --kind rows --seed $(SEED) --count $(COUNT_compared) -- $(DRIVER)
 
+COUNT_cuts := 1000
 #: cuts               the whole of that, two minutes: 1,000,000 sets of blocks, 1,000 kills within a table of 4,096, and some of it with files on disk
 cuts: target/c99/takes target/c99/cuts target/c99/take target/c99/cut-take
 	@echo "cuts: seed $(SEED)"
-	$(RUN) $< $(SEED) 500000
-	$(CUT) '' target/c99/cuts target/c99/take target/c99/cut-take $(SEED) 2000 1000
-	$(CUT) target/test/cuts target/c99/cuts target/c99/take target/c99/cut-take $(SEED) 100 20
+	$(RUN) $< $(SEED) $$((500 * $(COUNT_cuts)))
+	$(CUT) '' target/c99/cuts target/c99/take target/c99/cut-take $(SEED) $$((2 * $(COUNT_cuts))) $(COUNT_cuts)
+	$(CUT) target/test/cuts target/c99/cuts target/c99/take target/c99/cut-take $(SEED) $$(($(COUNT_cuts) / 10)) $$(($(COUNT_cuts) / 50))
 
+COUNT_parsed := 100000
 #: parsed             100,000 answers of the Sh entry, whose documents an XML parser reads as they were meant, half a minute
 parsed: target/c99/driver
-	$(DOCUMENTS) 100000 $(DRIVER)
+	$(DOCUMENTS) $(COUNT_parsed) $(DRIVER)
 
 #: spreadsheet        what Python's csv and LibreOffice, which it installs from Debian as root, make of a list, beside docs/LIST.md; a minute
 spreadsheet: target/c99/list target/c/maketable
@@ -293,7 +298,7 @@ peers: target/c99/daemon target/c/maketable
 
 # After how many cases each deliberate fault of the independent program shows; what the cases are made of.
 COUNT_mutants := 100000
-#: mutants            whether 1,399 deliberate faults would be noticed, and after how many cases
+#: mutants            whether 1,410 deliberate faults would be noticed, and after how many cases
 mutants: $(BINARY)
 	@echo "mutants: seed $(SEED)"
 	$(BINARY) mutants --seed $(SEED) --count $(COUNT_mutants)
@@ -301,23 +306,20 @@ mutants: $(BINARY)
 #: stats              what the compared cases are made of
 stats: $(BINARY)
 	@echo "stats: seed $(SEED)"
-	$(BINARY) stats --kind tables --seed $(SEED) --count $(COUNT_tables)
-	$(BINARY) stats --kind vectors --seed $(SEED) --count $(COUNT_vectors)
-	$(BINARY) stats --kind calls --seed $(SEED) --count $(COUNT_calls)
-	$(BINARY) stats --kind voicemail --seed $(SEED) --count $(COUNT_voicemail)
-	$(BINARY) stats --kind reports --seed $(SEED) --count $(COUNT_reports)
-	$(BINARY) stats --kind rows --seed $(SEED) --count $(COUNT_rows)
-	$(BINARY) stats --kind moves --seed $(SEED) --count $(COUNT_moves)
-	$(BINARY) stats --kind takes --seed $(SEED) --count $(COUNT_takes)
-	$(BINARY) stats --kind lists --seed $(SEED) --count $(COUNT_lists)
-	$(BINARY) stats --kind neighbours --seed $(SEED) --count $(COUNT_neighbours)
-	$(BINARY) stats --kind neighbours-voicemail --seed $(SEED) --count $(COUNT_neighbours-voicemail)
+	@for of in $(foreach kind,$(filter-out plain demand3% runs,$(KINDS)),$(kind):$(COUNT_$(kind))); do \
+	    $(BINARY) stats --kind $${of%:*} --seed $(SEED) --count $${of#*:}; \
+	done
 
 # The definitions beside the independent program: antt computes each case, which takes seconds; 24 make a quick trial.
 COUNT_DEFINITIONS := 300
 #: definitions-check  300 calls computed from the definitions and compared, a quarter of an hour; COUNT_DEFINITIONS=24 is a trial
 definitions-check: $(BINARY)
-	RT_JOBS=2 tests/definitions.py $(BINARY) $(SEED) $(COUNT_DEFINITIONS)
+	RT_JOBS=2 tests/within.sh target/test/definitions tests/definitions.py $(BINARY) $(SEED) $(COUNT_DEFINITIONS)
+
+SECONDS := 900
+#: long               mutants, stats, definitions-check, cuts, parsed, plain, rows and soak, each in its share of SECONDS=N (900) once all is made, what each covered, and its seeds
+long: target/c99/driver target/c99/takes target/c99/cuts target/c99/take target/c99/cut-take $(BINARY)
+	@tests/within.sh target/test/long tests/long.py $(SECONDS) $(SEED)
 
 # Writes crates/cases/stdin and stdout anew: what the gate's program `cases` runs, and what the independent program says
 # of it.
@@ -332,119 +334,90 @@ $(BINARY): $(REFERENCE)
 	cd reference && cargo build --offline --release --quiet
 	touch $@
 
+# ---- C programs. The folder says how one is compiled: in c and c++ as this machine's code, in c99 and cxx as x86-64 code, linked with those of the
+# archives that it is made from; FLAGS are what one has of its own. Where both folders have a source of its name, it is the example. What it is made from
+# besides that stands below.
+define IN_C
+mkdir -p $(@D)
+$(CC) -std=c99 $(STRICT) -o $@ $< $(filter %.o,$^)
+endef
+define IN_C++
+mkdir -p $(@D)
+$(CXX) $(STRICT) -o $@ -x c++ $<
+endef
+define IN_C99
+mkdir -p $(@D)
+$(X86_CC) -std=c99 $(STRICT) $(FLAGS) -o $@ $(filter %.c,$^) $(filter $^,$(ARCHIVES))
+endef
+FLAGS :=
+EXAMPLES := $(addprefix examples/,load.h fault.h hex.h peers.h stated.h store.h newfile.h area.h) $(HEADER) $(ARCHIVE)
+
 target/c/%: examples/%.c examples/load.h $(HEADER)
-	mkdir -p $(@D)
-	$(CC) -std=c99 $(STRICT) -o $@ $<
+	$(IN_C)
 
-target/c/header: tests/header.c $(HEADER) $(SH_HEADER)
-	mkdir -p $(@D)
-	$(CC) -std=c99 $(STRICT) -o $@ $<
+target/c/%: tests/%.c
+	$(IN_C)
 
-target/c++/header: tests/header.c $(HEADER) $(SH_HEADER)
-	mkdir -p $(@D)
-	$(CXX) $(STRICT) -o $@ -x c++ $<
+target/c++/%: tests/%.c
+	$(IN_C++)
 
-target/c/aims: tests/aims.c bench/aims.h
-	mkdir -p $(@D)
-	$(CC) -std=c99 $(STRICT) -o $@ $<
+target/c99/%: examples/%.c $(EXAMPLES)
+	$(IN_C99)
 
-target/c/texts: tests/texts.c tests/random-tables.h examples/load.h target/c/maketable.o target/c/showtable.o
+target/c99/%: tests/%.c $(HEADER) $(ARCHIVE)
+	$(IN_C99)
+
+target/cxx/%: examples/%.c $(EXAMPLES)
 	mkdir -p $(@D)
-	$(CC) -std=c99 $(STRICT) -o $@ $< $(filter %.o,$^)
+	$(X86_CXX) $(STRICT) -o $@ -x c++ $< -x none $(filter $^,$(ARCHIVES))
 
 # A program as a function under its own name.
-target/c/maketable.o target/c/showtable.o: target/c/%.o: examples/%.c examples/load.h
+target/c/%.o: examples/%.c examples/load.h
 	mkdir -p $(@D)
 	$(CC) -std=c99 $(STRICT) -Dmain=$* -c -o $@ $<
 
-target/c/fault: tests/fault.c examples/fault.h
-	mkdir -p $(@D)
-	$(CC) -std=c99 $(STRICT) -o $@ $<
+target/c/header target/c++/header: $(HEADER) $(SH_HEADER)
+target/c/aims: bench/aims.h
+target/c/texts: tests/random-tables.h examples/load.h target/c/maketable.o target/c/showtable.o
+target/c/fault target/c++/fault: examples/fault.h
+target/c/remember: $(addprefix examples/,remember.h base.h fault.h) $(HEADER)
+target/c/store target/c++/store: examples/store.h examples/load.h
+# Whoever asks over Sh, or is asked, is linked with both archives.
+BOTH := $(addprefix target/c99/,daemon userdata driver overstep voicemail stack) $(addprefix target/cxx/,daemon userdata) $(addprefix target/narrow/,driver decide)
+$(BOTH): $(SH_HEADER) $(SH_ARCHIVE)
+DAEMON := $(addprefix examples/,daemon.c files.c log.c row.c taking.c area.h base.h fault.h files.h log.h peers.h remember.h row.h stated.h store.h taking.h)
+target/c99/daemon: $(DAEMON)
+target/c99/unsound target/c99/voicemail target/c99/month: bench/requests.h
+target/c99/month: examples/load.h
+target/c99/moves target/c99/takes target/c99/cuts: tests/random-tables.h bench/requests.h
+target/c99/takes target/c99/cuts: tests/areas.h
 
-target/c++/fault: tests/fault.c examples/fault.h
-	mkdir -p $(@D)
-	$(CXX) $(STRICT) -o $@ -x c++ $<
-
-target/c/remember: tests/remember.c $(addprefix examples/,remember.h base.h fault.h) $(HEADER)
-	mkdir -p $(@D)
-	$(CC) -std=c99 $(STRICT) -o $@ $<
-
-target/c/store: tests/store.c examples/store.h examples/load.h
-	mkdir -p $(@D)
-	$(CC) -std=c99 $(STRICT) -o $@ $<
-
-target/c++/store: tests/store.c examples/store.h examples/load.h
-	mkdir -p $(@D)
-	$(CXX) $(STRICT) -o $@ -x c++ $<
-
-target/c99/driver: tests/driver.c $(HEADER) $(SH_HEADER) $(ARCHIVES)
-	mkdir -p $(@D)
-	$(X86_CC) -std=c99 $(STRICT) -o $@ $< $(ARCHIVES)
-
-target/c99/overstep: tests/overstep.c tests/driver.c $(HEADER) $(SH_HEADER) $(ARCHIVES)
-	mkdir -p $(@D)
-	$(X86_CC) -std=c99 $(STRICT) -Wl,--wrap=ndushavire_check,--wrap=ndushavire_check_vectors,--wrap=ndushavire_plain,--wrap=ndushavire_sh_decide \
-	    -Wl,--wrap=ndushavire_row,--wrap=ndushavire_export,--wrap=ndushavire_import -o $@ \
-	    tests/overstep.c tests/driver.c $(ARCHIVES)
-
-target/narrow/driver: tests/driver.c
-target/narrow/decide: examples/decide.c examples/load.h examples/fault.h examples/hex.h examples/peers.h examples/stated.h
-# Bound at the start, as pkg-config has it: else a first call pays for the dynamic linker on its own small stack.
-target/narrow/driver target/narrow/decide: tests/narrow.c $(HEADER) $(SH_HEADER) $(ARCHIVES)
-	mkdir -p $(@D)
-	$(X86_CC) -std=c99 $(STRICT) -pthread -Wl,-z,now \
-	    $(foreach entry,check check_vectors decide plain report row forward back take export import sh_decide,-Wl,--wrap=ndushavire_$(entry)) -o $@ $(filter %.c,$^) $(ARCHIVES)
-
-target/c99/version: tests/version.c $(HEADER) $(ARCHIVE)
-	mkdir -p $(@D)
-	$(X86_CC) -std=c99 $(STRICT) -o $@ $< $(ARCHIVE)
-
-target/c99/unsound: tests/unsound.c bench/requests.h $(HEADER) $(ARCHIVE)
-	mkdir -p $(@D)
-	$(X86_CC) -std=c99 $(STRICT) -o $@ $< $(ARCHIVE)
-
-target/c99/voicemail: tests/voicemail.c bench/requests.h $(HEADER) $(SH_HEADER) $(ARCHIVES)
-	mkdir -p $(@D)
-	$(X86_CC) -std=c99 $(STRICT) -o $@ $< $(ARCHIVES)
-
-target/c99/moves: tests/moves.c tests/random-tables.h bench/requests.h $(HEADER) $(ARCHIVE)
-	mkdir -p $(@D)
-	$(X86_CC) -std=c99 $(STRICT) -o $@ $< $(ARCHIVE)
-
-target/c99/takes: tests/takes.c
-target/c99/cuts: tests/cuts.c
-target/c99/takes target/c99/cuts: tests/areas.h tests/random-tables.h bench/requests.h $(HEADER) $(ARCHIVE)
-	mkdir -p $(@D)
-	$(X86_CC) -std=c99 $(STRICT) -o $@ $(filter %.c,$^) $(ARCHIVE)
+wraps = $(foreach entry,$(1),-Wl,--wrap=ndushavire_$(entry))
+target/c99/overstep: tests/driver.c
+target/c99/overstep: FLAGS = $(call wraps,check check_vectors plain sh_decide row export import)
 
 target/c99/cut-take: examples/take.c tests/cut.h $(addprefix examples/,area.h load.h store.h) $(HEADER) $(ARCHIVE)
-	mkdir -p $(@D)
-	$(X86_CC) -std=c99 $(STRICT) -include tests/cut.h -o $@ $< $(ARCHIVE)
+	$(IN_C99)
+target/c99/cut-take: FLAGS = -include tests/cut.h
 
-target/c99/month: tests/month.c bench/requests.h examples/load.h $(HEADER) $(ARCHIVE)
-	mkdir -p $(@D)
-	$(X86_CC) -std=c99 $(STRICT) -o $@ $< $(ARCHIVE)
+target/narrow/driver: tests/driver.c
+target/narrow/decide: examples/decide.c $(EXAMPLES)
+target/narrow/driver target/narrow/decide: tests/narrow.c $(HEADER) $(ARCHIVE)
+	$(IN_C99)
+# Bound at the start, as pkg-config has it: else a first call pays for the dynamic linker on its own small stack.
+target/narrow/driver target/narrow/decide: FLAGS = -pthread -Wl,-z,now $(call wraps,check check_vectors decide plain report row forward back take export import sh_decide)
 
-# The two that answer Sh requests are linked with both archives.
-DAEMON := $(addprefix examples/,daemon.c files.c log.c row.c taking.c area.h base.h fault.h files.h log.h peers.h remember.h row.h stated.h store.h taking.h)
-target/c99/daemon: $(DAEMON) $(HEADER) $(ARCHIVE)
-	mkdir -p $(@D)
-	$(X86_CC) -std=c99 $(STRICT) -o $@ $(filter %.c %.a,$^)
-$(foreach mode,c99 cxx,$(addprefix target/$(mode)/,daemon userdata)): $(SH_HEADER) $(SH_ARCHIVE)
-target/c99/%: examples/%.c examples/load.h examples/fault.h examples/hex.h examples/peers.h examples/stated.h examples/store.h examples/newfile.h examples/area.h $(HEADER) $(ARCHIVE)
-	mkdir -p $(@D)
-	$(X86_CC) -std=c99 $(STRICT) -o $@ $< $(filter %.a,$^)
-
-target/cxx/%: examples/%.c examples/load.h examples/fault.h examples/hex.h examples/peers.h examples/stated.h examples/store.h examples/newfile.h examples/area.h $(HEADER) $(ARCHIVE)
-	mkdir -p $(@D)
-	$(X86_CXX) $(STRICT) -o $@ -x c++ $< -x none $(filter %.a,$^)
+# One program for both bindings: which it is says the environment that it is run in.
+target/c99/stack: bench/stack.c bench/requests.h bench/samples.h bench/vectors.h examples/load.h $(HEADER) $(ARCHIVE)
+	$(IN_C99)
+target/c99/stack: FLAGS = -Wl,-z,lazy
 
 # ---- the benchmarks, native on every machine
 ifeq ($(MACHINE),x86_64)
-TUNE := -march=native
+TUNE_native := -march=native
 TIMED := $(ARCHIVES)
 else
-TUNE := -mcpu=native
+TUNE_native := -mcpu=native
 TIMED := target/native/libndushavire_sh.a target/native/libndushavire.a
 endif
 CHECKED := 1-short 16-short 300-short 4096-short 4096-ims 4096-long
@@ -454,12 +427,13 @@ REPORTED := 16-short 300-short 4096-short
 PLAINLY := 16-short 300-short 4096-short 4096-short-2-4
 TAKEN := 16-short-2 300-short-2 4096-short-2 4096-long-2 4096-short-2-4
 LISTED := 4096-short-2 4096-long-2 4096-short-2-4 4096-long-2-4 4096-alike-2-4
+TIMERS := $(addprefix target/bench/,check vectors decide report row moves takes list plain)
 # A program's arguments: each table, its profile file and how its names are. A table is named by its records, its names, for edition 2 by 2 and,
 # if it has sets, by how many records are in each.
 samples = $(foreach size,$(1),target/bench/$(size).table target/bench/$(size).profile $(word 2,$(subst -, ,$(size))))
 
 #: bench              times beside the aims, and what the plain engine takes beside the quick one, two minutes once their parts are made; a missed aim is marked
-bench: $(addprefix target/bench/,check vectors moves takes list decide plain report row) $(patsubst %,target/bench/%.table,$(sort $(CHECKED) $(SECOND) $(TAKEN) $(LISTED) $(DECIDED)))
+bench: $(TIMERS) $(patsubst %,target/bench/%.table,$(sort $(CHECKED) $(SECOND) $(TAKEN) $(LISTED) $(DECIDED)))
 	@{ $(CC) --version | head -n 1; \
 	   target/bench/check $(call samples,$(CHECKED) $(SECOND)); \
 	   target/bench/moves $(call samples,$(CHECKED)); \
@@ -500,31 +474,17 @@ target/native/lib%.a: bench/native-lib $(PROVED)
 	bench/native-lib $*
 
 # The least that a check of a file can do, for any x86-64 or Arm and for this machine's own processor.
-target/bench/sum-plain.o: bench/sum.c
+TUNE_plain :=
+SUMS := target/bench/sum-plain.o target/bench/sum-native.o
+$(SUMS): target/bench/sum-%.o: bench/sum.c
 	mkdir -p $(@D)
-	$(CC) -O3 -DSUM=sum_plain -c -o $@ $<
-
-target/bench/sum-native.o: bench/sum.c
-	mkdir -p $(@D)
-	$(CC) -O3 $(TUNE) -DSUM=sum_native -c -o $@ $<
+	$(CC) -O3 $(TUNE_$*) -DSUM=sum_$* -c -o $@ $<
 
 TIMER := bench/aims.h bench/requests.h bench/samples.h bench/timing.h bench/vectors.h examples/load.h $(HEADER) $(SH_HEADER) $(TIMED) target/bench/libreference_c.a
-SUMS := target/bench/sum-plain.o target/bench/sum-native.o
-
-target/bench/check target/bench/vectors: target/bench/%: bench/%.c $(TIMER) $(SUMS)
-	$(CC) -std=c99 $(STRICT) -o $@ $< $(SUMS) $(TIMED) target/bench/libreference_c.a -lpthread -ldl -lm
-
-target/bench/decide: bench/decide.c $(TIMER)
-	$(CC) -std=c99 $(STRICT) -o $@ $< $(TIMED) target/bench/libreference_c.a -lpthread -ldl -lm
-
+target/bench/check target/bench/vectors: $(SUMS)
 target/bench/report target/bench/row: bench/months.h
-target/bench/report target/bench/row target/bench/moves target/bench/takes target/bench/list target/bench/plain: target/bench/%: bench/%.c $(TIMER)
-	$(CC) -std=c99 $(STRICT) -o $@ $< $(TIMED)
-
-# One program for both bindings: which it is says the environment that it is run in.
-target/c99/stack: bench/stack.c bench/requests.h bench/samples.h bench/vectors.h examples/load.h $(HEADER) $(SH_HEADER) $(ARCHIVES)
-	mkdir -p $(@D)
-	$(X86_CC) -std=c99 $(STRICT) -Wl,-z,lazy -o $@ $< $(ARCHIVES)
+$(TIMERS): target/bench/%: bench/%.c $(TIMER)
+	$(CC) -std=c99 $(STRICT) -o $@ $< $(filter %.o,$^) $(TIMED) target/bench/libreference_c.a -lpthread -ldl -lm
 
 target/bench/libreference_c.a: bench/reference.rs $(BINARY)
 	mkdir -p $(@D)

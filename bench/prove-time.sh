@@ -3,11 +3,10 @@
 # One line a tree: the commit, user and system seconds together, the crates proved.
 #
 #     bench/prove-time.sh COMMIT..
-set -euo pipefail
+. "$(dirname "$0")/../tests/script.sh"
 [ $# -gt 0 ] || { sed -n '2,5s/^# \{0,1\}//p' "$0" >&2; exit 2; }
-top=$(git rev-parse --show-toplevel)
 room=$(mktemp -d)
-trap 'rm -rf "$room"' EXIT
+rooms+=("$room")
 TIMEFORMAT='%U %S'
 for commit; do
     short=$(git -C "$top" rev-parse --short "$commit")

@@ -2,18 +2,10 @@
 # served.sh ROOM CLIENT ONE ROWS SECONDS SIZE..: how many requests a second a daemon answers over loopback with 64 outstanding: durable SARs, each of which alters the
 # table and is on disk before its answer, and UARs. ONE is the daemon with a store for each request, ROWS the one that stores a row at a time; the files of a SIZE
 # are target/bench/SIZE.table and .profile. ROOM lies on the disk that is measured. They take turns, three of so many seconds each, and the medians count.
-set -euo pipefail
-room=$1 client=$2 one=$3 rows=$4 period=$5
+. "$(dirname "$0")/../tests/script.sh"
+make_room "$1"
+client=$2 one=$3 rows=$4 period=$5
 shift 5
-rm -rf "$room"
-mkdir -p "$room"
-daemon=''
-end_daemon() {
-    [ -z "$daemon" ] || kill -TERM "$daemon" 2>/dev/null || true
-    [ -z "$daemon" ] || wait "$daemon" || true
-    daemon=''
-}
-trap end_daemon EXIT
 
 rate() { # DAEMON SIZE WHAT: over files as they were
     local folder=$room/files port='' tries
@@ -32,7 +24,8 @@ rate() { # DAEMON SIZE WHAT: over files as they were
     done
     [ -n "$port" ] || { cat "$room/log" >&2; exit 1; }
     rated=$("$client" "$port" "target/bench/$2.table" "$3" "$period") || { cat "$room/log" >&2; exit 1; }
-    end_daemon
+    kill -TERM "$daemon"
+    wait "$daemon" || true
 }
 median() { printf '%s\n' "$@" | sort -n | sed -n 2p; }
 

@@ -3,13 +3,8 @@
 # if that is set, or takes them away again; `try` only says whether it could. PREFIX is absolute, and empty means /. So are BINDIR,
 # LIBDIR, INCLUDEDIR, MANDIR and DOCDIR, which lie under PREFIX unless they are set.
 # Each file, and each folder made for one, is first noted in DOCDIR/installed. Uninstalling goes by that note and nothing else.
-set -euo pipefail
-cd "$(dirname "$0")/.."
-
-fail() {
-    echo "packaging/install.sh: $*" >&2
-    exit 1
-}
+. "$(dirname "$0")/../tests/script.sh"
+cd "$top"
 
 # A path that is absolute, without the slashes at its end.
 absolute() { # NAME PATH
@@ -72,7 +67,7 @@ script_of() { # PAGE
 pkg_config() { # LIBRARY
     local text version
     under() { if [ "${1#"$prefix"/}" != "$1" ]; then printf '${prefix}/%s' "${1#"$prefix"/}"; else printf %s "$1"; fi; }
-    version=$(sed -n 's/^#define NDUSHAVIRE_VERSION "\(.*\)"$/\1/p' include/ndushavire.h)
+    version=$(header_version)
     text=$(<"packaging/$1.pc.in")
     text=${text//@PREFIX@/"$prefix"}
     text=${text//@LIBDIR@/"$(under "$libdir")"}

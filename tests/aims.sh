@@ -1,14 +1,12 @@
 #!/usr/bin/env bash
 # aims.sh ROOM AIMS: a missed aim of make bench is marked in its row, and counted at the end.
-set -euo pipefail
-room=$1
-rm -rf "$room"
-mkdir -p "$room"
+. "$(dirname "$0")/script.sh"
+make_room "$1"
 "$2"
 says() { # EXPECTED: of the report on standard input
     cat >"$room/report"
-    said=$("$(dirname "$0")/../bench/summary.sh" "$room/report")
-    [ "$said" = "$1" ] || { echo "aims.sh: the summary is '$said' and should be '$1'" >&2; exit 1; }
+    said=$("$top/bench/summary.sh" "$room/report")
+    [ "$said" = "$1" ] || fail "the summary is '$said' and should be '$1'"
 }
 says 'bench: every aim is met' <<'END'
    4096  UAR                 1.00   <= 1.1           0.70  < 1.0

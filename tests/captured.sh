@@ -3,17 +3,10 @@
 # what the independent program answers, with the result that its head names, rewrites the block that it should and uses the vectors
 # that it should, and no other, by either engine and either edition of the base standard and whatever features are supported, since none of them asks for any; and the AVP
 # at fault is named in the two that have one. An address in a request has a word in its head. RUN, if set, is the emulator that runs a DECIDE.
-set -euo pipefail
-room=$1 maketable=$2 reference=$(cd "$(dirname "$3")" && pwd)/${3##*/}
+. "$(dirname "$0")/script.sh"
+make_room "$1"
+maketable=$2 reference=$(cd "$(dirname "$3")" && pwd)/${3##*/}
 shift 3
-rm -rf "$room"
-mkdir -p "$room"
-tried=0
-
-fail() {
-    echo "captured.sh: $*" >&2
-    exit 1
-}
 many() { printf "%0*d" "$1" 0; } # N bytes
 
 # The lines that the requests ask for, as their heads describe them.

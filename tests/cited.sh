@@ -1,20 +1,11 @@
 #!/usr/bin/env bash
 # cited.sh ROOM CC..: in an installation, whatever the README and the manual pages cite is there: each file that they name, each
 # manual page. Then the README's trial, word by word. RUN, if set, is the emulator.
-set -euo pipefail
-room=$1
+. "$(dirname "$0")/script.sh"
+make_room "$1" trial
 shift
-top=$(cd "$(dirname "$0")/.." && pwd)
-rm -rf "$room"
-mkdir -p "$room/trial"
-room=$(cd "$room" && pwd)
 prefix=$room/prefix
 cited=0
-
-fail() {
-    echo "cited.sh: $*" >&2
-    exit 1
-}
 make -s -C "$top" install PREFIX="$prefix" DESTDIR=
 readme=$prefix/share/doc/ndushavire/README.md
 there() { # FILE BY

@@ -2,24 +2,14 @@
 # daemon.sh ROOM MAKETABLE ARCHIVES CC..: builds the daemon that ndushavire(3) shows and runs it on a disk that fails (daemon.c). Then
 # it leaves out one thing after the other, of the page or of store.h, and sees that each is noticed. Then the same with the daemon of the
 # examples. RUN, if set, is the emulator.
-set -euo pipefail
-room=$1 maketable=$2 archives=($3)
+. "$(dirname "$0")/script.sh"
+make_room "$1" source
+make_memory disk # some 100,000 renames
+maketable=$2 archives=($3)
 shift 3
 compiler=("$@")
-run=(${RUN:+"$RUN"})
-tests=$(dirname "$0")
-top=$tests/..
-rm -rf "$room"
-mkdir -p "$room/source"
-disk=$(mktemp -d -p /dev/shm daemon.XXXXXX 2>/dev/null) || disk=$(mktemp -d -p "$(cd "$room" && pwd)") # in memory, where some 100,000 renames are fast
-trap 'rm -rf "$disk"' EXIT
 mkdir "$disk/live"
 noticed=0
-
-fail() {
-    echo "daemon.sh: $*" >&2
-    exit 1
-}
 
 "$maketable" table "$top/examples/households.txt" >"$room/table"
 "$maketable" profile "$top/examples/households.txt" >"$room/profile"

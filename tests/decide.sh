@@ -3,20 +3,17 @@
 # or a vector file can bring about, and says which vectors were used, and which AVP of a request is at fault; and over the family of
 # docs/TABLE.md what a set shares. Peers of both editions get the same, byte by byte, but for a second Vendor-Id; and so they do whatever features
 # are supported, unless they ask for some. RUN, if set, is the emulator that runs a DECIDE.
-set -euo pipefail
+. "$(dirname "$0")/script.sh"
 shopt -s lastpipe
-room=$1 maketable=$2
+make_room "$1"
+maketable=$2
 shift 2
 decides=("$@")
-run=(${RUN:+"$RUN"})
-examples=$(dirname "$0")/../examples
-rm -rf "$room"
-mkdir -p "$room"
+examples=$top/examples
 table=$room/table profile=$room/profile vectors=$room/vectors request=$room/request
 "$maketable" table "$examples/households.txt" >"$table"
 "$maketable" profile "$examples/households.txt" >"$profile"
 "$maketable" vectors "$examples/vectors.txt" >"$vectors"
-tried=0
 peer=() # the options -e and -f, if they are given
 
 # The request on standard input gets what the file EXPECTED has, and DECIDE ends with STATUS.
@@ -27,8 +24,8 @@ gets() { # EXPECTED STATUS ABOUT
         for engine in '' -p; do
             status=0
             "${run[@]}" "$decide" $engine "${peer[@]}" "$table" "$profile" "$vectors" "$request" >"$room/said" 2>"$room/errors" || status=$?
-            cmp -s "$room/said" "$1" || { echo "decide.sh: $3: $decide $engine says"; cat "$room/said"; echo 'and should say'; cat "$1"; exit 1; } >&2
-            [ "$status" = "$2" ] || { echo "decide.sh: $3: $decide $engine ends with status $status instead of $2"; cat "$room/errors"; exit 1; } >&2
+            cmp -s "$room/said" "$1" || fail "$3: $decide $engine says $(cat "$room/said") and should say $(cat "$1")"
+            [ "$status" = "$2" ] || fail "$3: $decide $engine ends with status $status instead of $2: $(cat "$room/errors")"
         done
     done
     tried=$((tried + 1))
@@ -55,7 +52,7 @@ for decide in "${decides[@]}"; do
     status=0
     "${run[@]}" "$decide" "$table" "$profile" "$vectors" "$examples/no-avps.hex" >/dev/full 2>"$room/errors" || status=$?
     [ "$status" = 2 ] && grep -q '^standard output: ' "$room/errors" ||
-        { echo "decide.sh: $decide with nowhere to write ends with status $status" >&2; exit 1; }
+        fail "$decide with nowhere to write ends with status $status"
     tried=$((tried + 1))
 done
 # A peer that follows neither edition: whatever else is wrong, refusal 12 goes before it. Half an option is wrong use.
@@ -99,7 +96,7 @@ uses() { # NAME LINE..
     for decide in "${decides[@]}"; do
         "${run[@]}" "$decide" "$table" "$profile" "$vectors" "$captured/$1.hex" >"$room/said"
         [ "$(sed -n '/^[a-z]/p' "$room/said" | sed 1d)" = "$(printf '%s\n' "${@:2}")" ] ||
-            { echo "decide.sh: $1: $decide says"; cat "$room/said"; exit 1; } >&2
+            fail "$1: $decide says $(cat "$room/said")"
     done
     tried=$((tried + 1))
 }
@@ -122,15 +119,15 @@ decided() { # MESSAGE ABOUT
     for decide in "${decides[@]}"; do
         for edition in "${editions[@]}"; do
             "${run[@]}" "$decide" $edition "$table" "$profile" "$vectors" "$request" >"$room/said" ||
-                { echo "decide.sh: $2: $decide $edition does not answer" >&2; exit 1; }
-            [ "$edition" = "${editions[0]}" ] || cmp "$room/first" "$room/said" >&2 || { echo "decide.sh: $2: $decide $edition does otherwise" >&2; exit 1; }
+                fail "$2: $decide $edition does not answer"
+            [ "$edition" = "${editions[0]}" ] || cmp "$room/first" "$room/said" >&2 || fail "$2: $decide $edition does otherwise"
             cp "$room/said" "$room/first"
         done
         length=$(sed -n '1s/^answered, \([0-9]*\) bytes$/\1/p' "$room/said")
         lines=$(((length + 31) / 32))
         bytes=$(sed "1d; $((1 + lines))q" "$room/said" | tr -d ' \n')
         said=$(sed "1,$((1 + lines))d" "$room/said")
-        [ "$decide" = "${decides[0]}" ] || [ "$said" = "$behind" ] || { echo "decide.sh: $2: $decide says '$said' and another '$behind'" >&2; exit 1; }
+        [ "$decide" = "${decides[0]}" ] || [ "$said" = "$behind" ] || fail "$2: $decide says '$said' and another '$behind'"
         behind=$said
     done
     tried=$((tried + 1))
@@ -141,20 +138,20 @@ hurts() { # ABOUT COMMAND FAULT HEADER BEFORE AVP [AFTER]
     local place=$((20 + ${#5} / 2)) shown whole
     whole=$(message "$2" $cx "$5$6${7-}")
     decided "$whole" "$1"
-    [ "$(head -n 1 <<<"$behind")" = "${3/PLACE/$place}" ] || { echo "decide.sh: $1: not '${3/PLACE/$place}' but"; echo "$behind"; exit 1; } >&2
+    [ "$(head -n 1 <<<"$behind")" = "${3/PLACE/$place}" ] || fail "$1: not '${3/PLACE/$place}' but $behind"
     shown=$(sed '1d; s/^ *[0-9]*://' <<<"$behind" | tr -d ' \n')
     [ "$shown" = "${whole:2 * (place - 16):32}[${6:0:2 * $4}]${whole:2 * (place + $4):2 * (32 - $4)}" ] ||
-        { echo "decide.sh: $1: other bytes are shown than there are:"; echo "$behind"; exit 1; } >&2
+        fail "$1: other bytes are shown than there are: $behind"
     [ "$(sed '1d; s/^ *\([0-9]*\):.*/\1/' <<<"$behind" | tr '\n' ' ')" = "$(seq -s ' ' $((place - 16)) 16 $((${#whole} / 2 - 1)) | cut -d ' ' -f 1-3) " ] ||
-        { echo "decide.sh: $1: the lines begin elsewhere:"; echo "$behind"; exit 1; } >&2
+        fail "$1: the lines begin elsewhere: $behind"
 }
 # An answer with this RESULT, B or X, and no word on an AVP at fault.
 painless() { # ABOUT RESULT MESSAGE
     local code=0000010C
     decided "$3" "$1"
     [ "${2:0:1}" = B ] || code=0000012A
-    [[ $bytes = *"${code}4000000C$(printf %08X "${2:1}")"* ]] || { echo "decide.sh: $1: not $2 but $bytes" >&2; exit 1; }
-    [ -z "$(sed '/^\(vector \)\?block /d' <<<"$behind")" ] || { echo "decide.sh: $1: an AVP is blamed:"; echo "$behind"; exit 1; } >&2
+    [[ $bytes = *"${code}4000000C$(printf %08X "${2:1}")"* ]] || fail "$1: not $2 but $bytes"
+    [ -z "$(sed '/^\(vector \)\?block /d' <<<"$behind")" ] || fail "$1: an AVP is blamed: $behind"
 }
 
 # (a): lengths that are too short or too long, and headers that are cut off, also by the end of the longest request and at its front.
@@ -224,7 +221,7 @@ for members in "$vendor$both" "$both$vendor" "$vendor$vendor$both" "$(avp 266 00
     editions=('-e 6733')
     hurts 'several Vendor-Ids by RFC 6733' 302 "B5009 at byte PLACE: AVP 260 flags 0x40 length $((8 + ${#members} / 2))" 8 \
         "$session" "$(group "$members")" "$behind_it"
-    [[ $bytes = *"$(avp 279 40 - "$(group "$members")")"* ]] || { echo "decide.sh: Failed-AVP has not the whole 260: $bytes" >&2; exit 1; }
+    [[ $bytes = *"$(avp 279 40 - "$(group "$members")")"* ]] || fail "Failed-AVP has not the whole 260: $bytes"
 done
 # An AVP before it that is at fault goes before, and so does its own reserved flag; what is missing comes behind.
 hurts 'an unknown AVP before several Vendor-Ids' 302 'B5001 at byte PLACE: AVP 999 flags 0x40 length 8' 8 \
@@ -246,18 +243,14 @@ done
 hurts 'a second 260' 302 'B5009 at byte PLACE: AVP 260 flags 0x40 length 44' 8 "$session$application" "$(group "$vendor$both")" "$behind_it"
 
 # ---- features: what is asked for, and the server's own list
-fails() {
-    echo "decide.sh: $*" >&2
-    exit 1
-}
 origin=$(avp 264 40 - "$(text hss.isle)")$(avp 296 40 - "$(text isle)") own=0000027480000038000028AF # what the own list begins with
 supporting() { set=$1 editions=("-f $1" "-e 6733 -f $1"); } # SET
 tells() { # ABOUT: the answer has the own list, once, right behind its realm; what Failed-AVP holds is the request's
     local list before=${bytes%%0000011740*}
     list=$(supported 80 "$set")
-    [[ $before = *"$origin$list"* && ${before/"$list"/} != *"$own"* ]] || fails "$1: the own list is not once behind the realm: $bytes"
+    [[ $before = *"$origin$list"* && ${before/"$list"/} != *"$own"* ]] || fail "$1: the own list is not once behind the realm: $bytes"
 }
-silent() { [[ ${bytes%%0000011740*} != *"$own"* ]] || fails "$1: the own list is sent: $bytes"; } # ABOUT
+silent() { [[ ${bytes%%0000011740*} != *"$own"* ]] || fail "$1: the own list is sent: $bytes"; } # ABOUT
 # With AVPs that ASK, behind the others or before the last, the answer is that without them, and has the own list behind its realm; as much is altered.
 goes_on() { # ABOUT COMMAND AVPS ASKING
     local whole expected changed asked
@@ -267,8 +260,8 @@ goes_on() { # ABOUT COMMAND AVPS ASKING
     expected=$(printf '01%06X%s' $((${#whole} / 2)) "${whole:8}")
     for asked in "$3$4" "$front$4${3#"$front"}" "$session$4${3#"$session"}"; do
         decided "$(message "$2" $cx "$asked")" "$1"
-        [ "$bytes" = "$expected" ] || fails "$1: not $expected but $bytes"
-        [ "$behind" = "$changed" ] || fails "$1: not '$changed' but '$behind'"
+        [ "$bytes" = "$expected" ] || fail "$1: not $expected but $bytes"
+        [ "$behind" = "$changed" ] || fail "$1: not '$changed' but '$behind'"
     done
 }
 # With them it is X5011, whatever it would be without: nothing is altered, and nothing but the own list stands behind the realm.
@@ -277,8 +270,8 @@ asks_too_much() { # ABOUT COMMAND AVPS ASKING
     for asked in "$3$4" "$front$4${3#"$front"}"; do
         painless "$1" X5011 "$(message "$2" $cx "$asked")"
         tells "$1"
-        [ -z "$behind" ] || fails "$1: something is altered: $behind"
-        [ "${bytes#*"$origin"}" = "$(supported 80 "$set")" ] || fails "$1: something stands behind the own list: $bytes"
+        [ -z "$behind" ] || fail "$1: something is altered: $behind"
+        [ "${bytes#*"$origin"}" = "$(supported 80 "$set")" ] || fail "$1: something stands behind the own list: $bytes"
     done
 }
 # It has bad content, with M or without: B5004 with the whole of it, and it calls for no list; one beside it that is right does.
@@ -288,7 +281,7 @@ bad_features() { # ABOUT MEMBERS
         faulty=$(avp 628 $flags $third "$2") says="B5004 at byte PLACE: AVP 628 vendor 10415 flags 0x${flags,,} length $((12 + ${#2} / 2))"
         hurts "$1, flags $flags" 302 "$says" 12 "$front" "$faulty" "$bob"
         silent "$1, flags $flags"
-        [[ $bytes = *"$(avp 279 40 - "$faulty")" ]] || fails "$1: Failed-AVP has not the whole 628: $bytes"
+        [[ $bytes = *"$(avp 279 40 - "$faulty")" ]] || fail "$1: Failed-AVP has not the whole 628: $bytes"
     done
     hurts "$1, before one that is right" 302 "$says" 12 "$front" "$faulty" "$right$bob"
     tells "$1, before one that is right"
@@ -387,7 +380,7 @@ for code in 628 629 630; do
         [ "$vendor" != - ] || flags=00
         silent_at "$code of vendor $vendor" B2001 "$(message 302 $cx "$front$(avp $code $flags "$vendor" "${right:24}")$bob")"
         decided "$(message 302 $cx "$front$(avp $code "$([ $flags = 00 ] && echo 40 || echo C0)" "$vendor" "${right:24}")$bob")" "$code of vendor $vendor with M"
-        [[ $bytes = *0000010C4000000C00001389* ]] || fails "$code of vendor $vendor with M: $bytes"
+        [[ $bytes = *0000010C4000000C00001389* ]] || fail "$code of vendor $vendor with M: $bytes"
         silent "$code of vendor $vendor with M"
     done
 done
@@ -450,7 +443,7 @@ uses mar-33
 # ---- a family in one set, blocks 1, 3 and 4, and a line beside it, as TABLE.md has them
 reaches() { # ABOUT RESULT MESSAGE BLOCK..
     painless "$1" "$2" "$3"
-    [ "$behind" = "$(printf 'block %s rewritten\n' "${@:4}")" ] || [ -z "$behind$4" ] || { echo "decide.sh: $1: rewritten: $behind"; exit 1; } >&2
+    [ "$behind" = "$(printf 'block %s rewritten\n' "${@:4}")" ] || [ -z "$behind$4" ] || fail "$1: rewritten: $behind"
 }
 sar() { message 301 $cx "$front$server$(assigned "$1")$available$2"; } # TYPE IDENTITIES
 family() { # SED: the family's text with lines edited
@@ -482,7 +475,7 @@ family '/ set=1$/s/$/ barred/; /^barred$/d'
 reaches 'a line whose whole set is barred' B5003 "$(message 300 $cx "$front$(private finn@isle)$kids$visited")" ''
 "$maketable" vectors <(sed 's/private=erin@isle/private=finn@isle/' "$examples/vectors.txt") >"$vectors"
 decided "$(message 303 $cx "$(mar finn@isle sip:finn@isle "$item" 1)")" 'one of a set challenged'
-[ "$(sed '/^vector /d' <<<"$behind")" = "$(printf 'block %s rewritten\n' 1 3 4)" ] || { echo "decide.sh: one of a set challenged: $behind"; exit 1; } >&2
+[ "$(sed '/^vector /d' <<<"$behind")" = "$(printf 'block %s rewritten\n' 1 3 4)" ] || fail "one of a set challenged: $behind"
 family '/^public=tel:/s/set=1/set=2/; /^public=sip:finn@/s/$/ state=registered server=s/; /^public=sip:finn@/s/set=1/set=3/'
 painless 'three lines of three sets' B2001 "$(message 302 $cx "$front$finn")"
 set_byte "$table" $((512 * 3 + 407)) 1

@@ -7,19 +7,16 @@ refuses the document, as SH.md says. In either case its bytes are those of that 
 import random, struct, sys
 import xml.parsers.expat
 import streams
+from trials.messages import SH, UDR, avp, message
+from trials.want import Wrong
 
 BATCH = 2000
-SH, UDR = 16777217, 306
 ESCAPES = {ord('&'): b'&amp;', ord('<'): b'&lt;', ord('>'): b'&gt;', ord('"'): b'&quot;', ord("'"): b'&apos;'}
 # What XML 1.0 allows besides CR, from the smallest encodings to the longest, with the ends of each range.
 ALLOWED = [(0x9, 0xA), (0x20, 0x7F), (0x80, 0x7FF), (0x800, 0xD7FF), (0xE000, 0xFFFD), (0x10000, 0x10FFFF)]
 # And some of what it does not: controls, lone and overlong bytes, surrogates, the last two of a plane.
 REFUSED = [b'\0', b'\1', b'\b', b'\x0b', b'\x0c', b'\x0e', b'\x1f', b'\x80', b'\xbf', b'\xc0\x80', b'\xc3', b'\xe0\x80\x80', b'\xed\xa0\x80',
            b'\xed\xbf\xbf', b'\xef\xbf\xbe', b'\xef\xbf\xbf', b'\xf4\x90\x80\x80', b'\xf8', b'\xff']
-
-
-class Wrong(Exception):
-    pass
 
 
 def character(draw):
@@ -89,17 +86,11 @@ def line_of(draw, public):
     return (public, state, int(pending), name), read
 
 
-def avp(code, data, vendor=0):
-    head = struct.pack('>II', code, (0xC0 if vendor else 0x40) << 24 | 8 + (4 if vendor else 0) + len(data))
-    return head + (struct.pack('>I', vendor) if vendor else b'') + data + b'\0' * (-len(data) % 4)
-
-
 def request_of(public, references):
-    number = lambda value: struct.pack('>I', value)
-    body = avp(263, b'vm.isle;1') + avp(260, avp(266, number(10415)) + avp(258, number(SH))) + avp(277, number(1)) + avp(264, b'vm.isle')
+    body = avp(263, b'vm.isle;1') + avp(260, avp(266, 10415) + avp(258, SH)) + avp(277, 1) + avp(264, b'vm.isle')
     body += avp(296, b'isle') + avp(283, b'isle') + avp(700, avp(601, public, 10415), 10415)
-    body += b''.join(avp(703, number(one), 10415) for one in references)
-    return struct.pack('>IIIII', 1 << 24 | 20 + len(body), 0xC0 << 24 | UDR, SH, 1, 2) + body
+    body += b''.join(avp(703, one, 10415) for one in references)
+    return message(UDR, body, SH, hop=1, end=2)
 
 
 def asked_of(draw):

@@ -2,20 +2,10 @@
 # installs.sh ROOM CC..: installs into folders of ROOM as users and packagers do, compares what is there with what should be,
 # builds examples with what pkg-config says and nothing else, checks the sample with one, and sees that uninstalling takes away what
 # was installed and nothing more. What must not be a prefix is refused, and the tree stays as it is. RUN, if set, is the emulator.
-set -euo pipefail
-room=$1
+. "$(dirname "$0")/script.sh"
+make_room "$1" new
 shift
 compiler=("$@")
-top=$(cd "$(dirname "$0")/.." && pwd)
-rm -rf "$room"
-mkdir -p "$room/new"
-room=$(cd "$room" && pwd)
-tried=0
-
-fail() {
-    echo "installs.sh: $*" >&2
-    exit 1
-}
 command -v pkg-config >/dev/null || fail 'pkg-config is missing (Debian: pkg-config)'
 programs=(bin/ndushavire-maketable bin/ndushavire-showtable)
 [ "$(uname -m)" != x86_64 ] || programs+=(bin/answer bin/ndushavire-check bin/ndushavire-list bin/ndushavire-move bin/ndushavire-report bin/ndushavire-take bin/tablecheck)
@@ -29,7 +19,7 @@ for library in "${libraries[@]}"; do
         sed -n '/^\.Sh NAME/,/^\.Nd/p' "$top/man/$library.3" | grep -q -E "^\.Nm $name( ,)?\$" || fail "$library(3) does not name $name"
     done
 done
-version=$(sed -n 's/^#define NDUSHAVIRE_VERSION "\(.*\)"$/\1/p' "$top/include/ndushavire.h")
+version=$(header_version)
 quiet() { make -s -C "$top" "$@"; }
 
 # What should be there under a prefix; of documents, pages and examples whatever the tree has.

@@ -2,17 +2,8 @@
 # kit.sh ROOM: .ci/run refuses a kit that is not the one pinned in KIT-ID, names both, and does nothing else; with the pinned one
 # it goes on. The rt that it finds here only says a version, and every other command of it fails. Then the table of what its parts took; and
 # make test has every part that make help lists for it.
-set -euo pipefail
-room=$1
-top=$(cd "$(dirname "$0")/.." && pwd)
-rm -rf "$room"
-mkdir -p "$room/bin"
-room=$(cd "$room" && pwd)
-
-fail() {
-    echo "kit.sh: $*" >&2
-    exit 1
-}
+. "$(dirname "$0")/script.sh"
+make_room "$1" bin
 cat >"$room/bin/rt" <<END
 #!/bin/sh
 [ "\$*" = version ] && exec cat "$room/version"

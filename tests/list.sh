@@ -2,37 +2,23 @@
 # list.sh ROOM MAKETABLE CHECK LIST..: each LIST writes tables as lists and makes them again, into new files alone. Each list is what
 # cells.py says of the table's bytes, and there and back is the first file. Whatever is refused leaves no file, and names the block or the line.
 # RUN, if set, is the emulator.
-set -euo pipefail
-room=$1 maketable=$(realpath "$2") check=$(realpath "$3")
+. "$(dirname "$0")/script.sh"
+. "$tests/blocks.sh"
+. "$tests/newfile.sh"
+make_room "$1" here
+maketable=$(realpath "$2") check=$(realpath "$3")
 shift 3
 lists=()
 for list in "$@"; do lists+=("$(realpath "$list")"); done
-run=(${RUN:+"$RUN"})
-top=$(cd "$(dirname "$0")/.." && pwd)
-. "$(dirname "$0")/blocks.sh"
-rm -rf "$room"
-mkdir -p "$room/here"
-room=$(cd "$room" && pwd)
 sample=$top/examples/households.txt table=$room/table profile=$room/profile csv=$room/csv new=$room/here/new
 columns=public,private,server,state,pending,barred,services,roaming,mandatory,m1,m2,m3,m4,optional,o1,o2,o3,o4,start,length,set
-tried=0
-
-fail() {
-    echo "list.sh: $*" >&2
-    exit 1
-}
-# The sample in edition 2: with this issue, and altered as AWK says.
-of_issue() { # ISSUE TABLE [AWK]
-    awk "/^host=/ { \$0 = \$0 \" issue=$1\" } ${3-} 1" "$sample" >"$room/text"
-    "$maketable" table "$room/text" >"$2"
-}
 "$maketable" table "$sample" >"$room/first"
 "$maketable" profile "$sample" >"$profile"
 of_issue 7 "$room/second"
 blocks=$(($(stat -c %s "$room/second") / 512))
 records=$((blocks - 1))
 
-list_of() { "$top/tests/cells.py" list "$1"; } # TABLE
+list_of() { "$tests/cells.py" list "$1"; } # TABLE
 
 # The program with these words ends with STATUS and says SAID on standard output, and nothing on standard error; what it reads stays as it is.
 said() { # STATUS SAID ABOUT WORD..
@@ -44,7 +30,6 @@ said() { # STATUS SAID ABOUT WORD..
     [ "$(cksum "$table" "$profile" "$csv")" = "$before" ] || fail "$3: $list alters what it reads"
     tried=$((tried + 1))
 }
-files_here() { (cd "$room/here" && find . -mindepth 1 | LC_ALL=C sort | tr '\n' ' '); }
 made() { # EXPECTED ABOUT
     cmp "$1" "$new" >&2 || fail "$2: $list makes another file"
     [ "$(files_here)" = './new ' ] && [ "$(stat -c %a "$new")" = 640 ] || fail "$2: $list leaves $(ls -l "$room/here")"
@@ -237,20 +222,14 @@ fails() { # ABOUT WORD..
     [ "$(files_here; cksum "$table" "$csv")" = "$before" ] || fail "$1: $list leaves $(files_here)"
     tried=$((tried + 1))
 }
-version=$(sed -n 's/^#define NDUSHAVIRE_VERSION "\(.*\)"$/\1/p' "$top/include/ndushavire.h")
+version=$(header_version)
 for list in "${lists[@]}"; do
     fails 'a list over the table' export "$table" "$profile" "$table"
     fails 'a table over the one that was exported' import "$csv" "$table" "$profile" "$table"
     fails 'a table over the list' import "$csv" "$table" "$profile" "$csv"
     for there in file folder link loose fifo; do
         for name in "$new" "$new.new"; do
-            case $there in
-            file) echo mine >"$name" ;;
-            folder) mkdir "$name" ;;
-            link) ln -s ../table "$name" ;;
-            loose) ln -s ../none "$name" ;;
-            fifo) mkfifo "$name" ;;
-            esac
+            put_there "$there" "$name"
             fails "$there at ${name##*/}" export "$table" "$profile" "$new"
             fails "$there at ${name##*/}, import" import "$csv" "$table" "$profile" "$new"
             [ "$there" != file ] || [ "$(cat "$name")" = mine ] || fail "$list writes over a file"

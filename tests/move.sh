@@ -2,29 +2,15 @@
 # move.sh ROOM MAKETABLE SHOWTABLE CHECK MOVE..: each MOVE moves tables from edition 1 to 2 and back, into new files alone. What it makes is what
 # maketable makes of the text with the issue; there and back is the first file again. Whatever is refused leaves no file, and names the
 # block. RUN, if set, is the emulator.
-set -euo pipefail
-room=$1 maketable=$(realpath "$2") showtable=$(realpath "$3") check=$(realpath "$4")
+. "$(dirname "$0")/script.sh"
+. "$tests/blocks.sh"
+. "$tests/newfile.sh"
+make_room "$1" here
+maketable=$(realpath "$2") showtable=$(realpath "$3") check=$(realpath "$4")
 shift 4
 moves=()
 for move in "$@"; do moves+=("$(realpath "$move")"); done
-run=(${RUN:+"$RUN"})
-top=$(cd "$(dirname "$0")/.." && pwd)
-. "$(dirname "$0")/blocks.sh"
-rm -rf "$room"
-mkdir -p "$room/here"
-room=$(cd "$room" && pwd)
 sample=$top/examples/households.txt table=$room/table profile=$room/profile new=$room/here/new
-tried=0
-
-fail() {
-    echo "move.sh: $*" >&2
-    exit 1
-}
-# The sample in edition 2: with this issue, and with a set where AWK puts one.
-of_issue() { # ISSUE TABLE [AWK]
-    awk "/^host=/ { \$0 = \$0 \" issue=$1\" } ${3-} 1" "$sample" >"$room/text"
-    "$maketable" table "$room/text" >"$2"
-}
 "$maketable" table "$sample" >"$room/first"
 "$maketable" profile "$sample" >"$profile"
 of_issue 7 "$room/second"
@@ -40,7 +26,6 @@ said() { # STATUS SAID ABOUT WORD..
     [ "$(cksum "$table" "$profile")" = "$before" ] || fail "$3: $move alters what it reads"
     tried=$((tried + 1))
 }
-files_here() { (cd "$room/here" && find . -mindepth 1 | LC_ALL=C sort | tr '\n' ' '); }
 # A table is moved, and the new file is EXPECTED; nothing else is left.
 moved() { # EXPECTED SAID ABOUT WORD..
     for move in "${moves[@]}"; do
@@ -143,7 +128,7 @@ fails() { # ABOUT WORD..
     [ "$(files_here; cksum "$table")" = "$before" ] || fail "$1: $move leaves $(files_here)"
     tried=$((tried + 1))
 }
-version=$(sed -n 's/^#define NDUSHAVIRE_VERSION "\(.*\)"$/\1/p' "$top/include/ndushavire.h")
+version=$(header_version)
 for move in "${moves[@]}"; do
     fails 'over the table itself' forward 7 "$table" "$profile" "$table"
     cp "$table" "$room/kept.new"
@@ -152,13 +137,7 @@ for move in "${moves[@]}"; do
     [ "$(cksum <"$room/kept.new")" = "$before" ] && [ ! -e "$room/kept" ] || fail 'a table with that name is gone'
     for there in file folder link loose fifo; do
         for name in "$new" "$new.new"; do
-            case $there in
-            file) echo mine >"$name" ;;
-            folder) mkdir "$name" ;;
-            link) ln -s ../table "$name" ;;
-            loose) ln -s ../none "$name" ;;
-            fifo) mkfifo "$name" ;;
-            esac
+            put_there "$there" "$name"
             fails "$there at ${name##*/}" forward 7 "$table" "$profile" "$new"
             [ "$there" != file ] || [ "$(cat "$name")" = mine ] || fail "$move writes over a file"
             [ ! -e "$room/none" ] || fail "$move follows a link"

@@ -2,17 +2,16 @@
 # noticed.sh REFERENCE DRIVER..: would a comparison fail? The independent program beside itself agrees; beside itself with
 # a deliberate fault, or beside a driver that says nothing, it must end with status 1, and so beside DRIVER, where the
 # library oversteps (overstep.c).
-set -euo pipefail
+. "$(dirname "$0")/script.sh"
 reference=$1
 driver=("${@:2}")
-tried=0
 # A fault shows once in 1,600 pairs; a run has some 25 calls.
 declare -A count=([tables]=2000 [vectors]=2000 [calls]=2000 [plain]=2000 [voicemail]=8000 [reports]=1000 [rows]=2000 [moves]=2000 [takes]=2000 [lists]=8000 [demand3]=8000 [demand3-voicemail]=8000 [neighbours]=4000 [neighbours-voicemail]=4000 [breaches]=100 [runs]=50)
 
 ends() { # STATUS KIND DRIVER..
     local status=0
     "$reference" compare --kind "$2" --seed 1 --count "${count[$2]}" -- "${@:3}" >/dev/null 2>&1 || status=$?
-    [ "$status" = "$1" ] || { echo "noticed.sh: compare --kind $2 -- ${*:3} ends with status $status instead of $1" >&2; exit 1; }
+    [ "$status" = "$1" ] || fail "compare --kind $2 -- ${*:3} ends with status $status instead of $1"
     tried=$((tried + 1))
 }
 

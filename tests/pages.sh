@@ -2,13 +2,8 @@
 # pages.sh: make help has a line for each target and no other; every `make X` that a page names is a target; README.md names the kit that
 # KIT-ID pins and the Rust that reference/Cargo.toml asks for; the map in docs/ARCHITECTURE.md has every crate, and no arrow that crates.txt has not;
 # no line of a page has 200 characters. What the pages quote and name is pages.py's.
-set -euo pipefail
-cd "$(dirname "$0")/.."
-
-fail() {
-    echo "pages.sh: $*" >&2
-    exit 1
-}
+. "$(dirname "$0")/script.sh"
+cd "$top"
 targets=$(sed -n 's/^\.PHONY: //p' Makefile | tr ' ' '\n' | sort)
 diff <(echo "$targets") <(make -s help | cut -d ' ' -f 1 | sort) >&2 || fail 'make help has other lines than there are targets'
 named=$({ grep -h -o -E '`make [a-z-]+' README.md docs/*.md man/* && sed -n 's/^    make \([a-z-]*\).*/`make \1/p' README.md; } | cut -d ' ' -f 2 | sort -u)

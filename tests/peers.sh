@@ -5,14 +5,8 @@
 # What is missing is installed from Debian, for which it must be root.
 # What cannot run on a machine is said and counted; of a trial that fails, what ended by itself and what the logs say. Status 0 if everything
 # ran and went as it should, 1 if something went wrong, 2 if something could not run.
-set -euo pipefail
-tests=$(cd "$(dirname "$0")" && pwd)
+. "$(dirname "$0")/script.sh"
 packages=(freediameter kamailio kamailio-ims-modules kamailio-presence-modules erlang-diameter erlang-xmerl erlang-dev tshark iproute2 openssl python3)
-
-fail() {
-    echo "peers.sh: $*" >&2
-    exit 1
-}
 
 # ---- outside: packages, and a namespace for the rest
 if [ -z "${PEERS_INSIDE-}" ]; then
@@ -23,7 +17,7 @@ if [ -z "${PEERS_INSIDE-}" ]; then
     if [ ${#missing[@]} -gt 0 ]; then
         [ "$(id -u)" = 0 ] || fail "these packages are missing, and only root can install them: ${missing[*]}"
         policy=/usr/sbin/policy-rc.d # by which no service is started for having been installed
-        [ -e "$policy" ] || { trap 'rm -f "$policy"' EXIT && printf '#!/bin/sh\nexit 101\n' >"$policy" && chmod +x "$policy"; }
+        [ -e "$policy" ] || { rooms+=("$policy") && printf '#!/bin/sh\nexit 101\n' >"$policy" && chmod +x "$policy"; }
         apt-get update -q
         for package in "${missing[@]}"; do # one by one: what there is not is said below, by whatever cannot run
             DEBIAN_FRONTEND=noninteractive apt-get install -y -q --no-install-recommends "$package" || echo "peers.sh: no package $package" >&2
@@ -36,16 +30,14 @@ if [ -z "${PEERS_INSIDE-}" ]; then
 fi
 
 # ---- inside: the isle's addresses and names, and nobody else's
-room=$1 maketable=$(realpath "$2")
+make_room "$1" live cards database
+maketable=$(realpath "$2")
 shift 2
 daemon=("$@")
-rm -rf "$room"
-mkdir -p "$room/live" "$room/cards" "$room/database"
-room=$(cd "$room" && pwd)
 [[ ${daemon[-1]} = /* ]] || daemon[-1]=$(realpath "${daemon[-1]}")
 cp "$tests/peers/"* "$room/"
 # The relay's files are those that docs/INTEROPERABILITY.md shows, one indented piece after the other.
-sed -n '/^## A relay in front/,/^## Requests/p' "$tests/../docs/INTEROPERABILITY.md" >"$room/page"
+sed -n '/^## A relay in front/,/^## Requests/p' "$top/docs/INTEROPERABILITY.md" >"$room/page"
 cd "$room"
 awk '/^    / { if (!within) piece++; within = 1; print substr($0, 5) > (piece == 1 ? "relay.conf" : piece == 2 ? "callers.conf" : "routes.conf"); next } { within = 0 }' page
 grep -q '^ConnectPeer' relay.conf && grep -q '^ALLOW_IPSEC' callers.conf && grep -q 'FINALDEST' routes.conf || fail "docs/INTEROPERABILITY.md shows no relay"
@@ -57,10 +49,8 @@ mount --bind hosts /etc/hosts
 mount --bind resolv.conf /etc/resolv.conf
 
 ulimit -c 0 # a program that crashes is noticed at once, and not when its memory is written
-passed=0 failed=0 could_not=0 running=()
+passed=0 failed=0 could_not=0
 declare -A started=() # by process: what runs, and its log
-ended() { for pid in "${running[@]}"; do kill "$pid" 2>/dev/null || true; done; }
-trap ended EXIT
 passes() { # WHAT
     passed=$((passed + 1))
     echo "peers.sh: PASSED: $1"
@@ -113,7 +103,6 @@ says() { # FILE TEXT: waits until the file has it
 start() { # LOG COMMAND..
     "${@:2}" >>"$1" 2>&1 &
     last_pid=$!
-    running+=("$last_pid")
     started[$last_pid]="${2##*/}, $1,"
 }
 finish() { # PID: by SIGTERM, and its status

@@ -2,21 +2,13 @@
 # programs.sh ROOM MAKETABLE FOLDER RUN..: the programs answer and tablecheck of FOLDER, run by the words RUN, look at ./table,
 # ./profile and, where it is there, ./vectors alone, answer --help and --version, and refuse every other argument with a line on
 # standard error. They write to no file.
-set -euo pipefail
-room=$1 maketable=$(realpath "$2") folder=$(realpath "$3")
+. "$(dirname "$0")/script.sh"
+. "$tests/messages.sh"
+make_room "$1" other
+maketable=$(realpath "$2") folder=$(realpath "$3")
 shift 3
 run=("$@")
-top=$(cd "$(dirname "$0")/.." && pwd)
-. "$top/tests/messages.sh"
-rm -rf "$room"
-mkdir -p "$room/other"
 cd "$room"
-tried=0
-
-fail() {
-    echo "programs.sh: $*" >&2
-    exit 1
-}
 
 # PROGRAM with these ARGUMENTS writes what the files `out` and `errors` then have.
 runs() { # PROGRAM ARGUMENT..
@@ -28,7 +20,7 @@ refused() { # PROGRAM ARGUMENT..
     [ ! -s out ] || fail "$*: writes '$(cat out)' to standard output"
     [ "$(cat errors)" = "$1: no arguments are taken but --help or --version alone" ] || fail "$*: says '$(cat errors)' on standard error"
 }
-version=$(sed -n 's/^#define NDUSHAVIRE_VERSION "\(.*\)"$/\1/p' "$top/include/ndushavire.h")
+version=$(header_version)
 
 # The table here is sound and the other one is not, so that one taken for the other shows.
 "$maketable" table "$top/examples/households.txt" >table

@@ -124,6 +124,8 @@ class Tree:
         if kept is None or not os.path.exists(file) or file == 'tests/quick.py':
             return set()
         text = '\n'.join(re.findall(kept, open(file, errors='replace').read(), re.MULTILINE))
+        if file.endswith('.py'):
+            text += ''.join(' %s.py' % name.replace('.', '/') for name in re.findall(r'^(?:from|import) ([a-z_.]+)', text, re.MULTILINE))
         return self.named_in(text + recipe('install') * bool(re.search(r'\bmake .*\binstall\b', text)))
 
     def files_of(self, part):

@@ -4,33 +4,19 @@
 # it, a line `..` standing for any lines. Then each command of each script fails in turn, and the files are whole after each.
 # PROGRAM are the words that run answer and tablecheck where they are not installed; RUN, if set, is the emulator; CC makes x86-64 code.
 # As root the daemon's folder is nobody's, and the scripts run as nobody; else both are the user's own.
-set -euo pipefail
-shopt -s lastpipe
-umask 022
-room=$1 program=$2
-shift 2
-tests=$(cd "$(dirname "$0")" && pwd)
-top=$(cd "$tests/.." && pwd)
+. "$(dirname "$0")/script.sh"
 . "$tests/blocks.sh"
 . "$tests/messages.sh"
-rm -rf "$room"
-mkdir -p "$room"
-room=$(cd "$room" && pwd)
+shopt -s lastpipe
+umask 022
+make_room "$1"
+program=$2
+shift 2
 disk=$(mktemp -d) # to which nobody comes, also where the tree is closed to him
+rooms+=("$disk")
 chmod 755 "$disk"
 tree=$disk/tree bin=$disk/bin prefix=$disk/prefix here=$disk/here
-daemon='' daemon_alone='' memory='' ran=0 trials=0
-ended() {
-    [ -z "$daemon" ] || kill -TERM -- "-$daemon" 2>/dev/null || true
-    [ -z "$daemon_alone" ] || kill -KILL "$daemon_alone" 2>/dev/null || true
-    rm -rf "$disk" ${memory:+"$memory"}
-}
-trap ended EXIT
-
-fail() {
-    echo "recipes.sh: $*" >&2
-    exit 1
-}
+ran=0 trials=0
 command -v flock >/dev/null || fail 'flock is missing (Debian: util-linux)'
 
 # ---- what the pages print
@@ -139,7 +125,6 @@ serve() {
 end_daemon() {
     kill -TERM -- "-$daemon"
     wait "$daemon" || true
-    daemon=''
     await "$room/log" 'daemon: ended' 'the daemon does not end'
 }
 bytes() { printf %b "$(tr -d ' \n' | sed 's/../\\x&/g')"; }
@@ -347,10 +332,8 @@ run_daemon() { # STATUS: ends by itself, or by SIGTERM once it has taken the tab
         [ ! -s "$room/status" ] && ! grep -q 'is taken over' "$room/said" 2>/dev/null || break
         sleep 0.02
     done
-    daemon_alone=$(cat "$room/pid")
-    [ -s "$room/status" ] || kill -TERM "$daemon_alone" 2>/dev/null || true
+    [ -s "$room/status" ] || kill -TERM "$(cat "$room/pid")" 2>/dev/null || true
     await "$room/status" '^ended' 'ndushavire-take(1): the daemon does not end'
-    daemon_alone=''
     [ "$(cat "$room/status")" = "ended with status $1" ] || fail "ndushavire-take(1): the daemon $(cat "$room/status"): $(cat "$room/said")"
 }
 run_daemon 0
@@ -403,8 +386,9 @@ state "$here" >"$room/before"
 rm -rf "$here/month.new"
 state "$here" | diff "$room/before" - >&2 || fail 'a month that is begun twice loses what it had'
 
-# ---- each command of each script fails in turn; in memory, if that can be, where a flush takes no time
-memory=$(mktemp -d -p /dev/shm recipes.XXXXXX 2>/dev/null) && here=$memory/here || memory=''
+# ---- each command of each script fails in turn
+make_memory memory
+here=$memory/here
 mkdir "$disk/counted"
 for name in ndushavire-maketable ndushavire-showtable ndushavire-check ndushavire-move awk cat cp date flock head ln mkdir mv od rm sync tail; do
     printf '#!/bin/sh\nread -r turn <"%s/turn"\necho $((turn - 1)) >"%s/turn"\n[ "$turn" != 1 ] || exit 7\nexec "%s" "$@"\n' \

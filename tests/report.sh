@@ -1,22 +1,14 @@
 #!/usr/bin/env bash
 # report.sh ROOM MAKETABLE REPORT..: each REPORT counts what requests laid end to end get: every result, every refusal, table and vectors
 # carried along; says where and why it stopped, also past 4 GiB; and writes to no file. RUN, if set, is the emulator that runs a REPORT.
-set -euo pipefail
-room=$1 maketable=$2
+. "$(dirname "$0")/script.sh"
+. "$tests/messages.sh"
+make_room "$1"
+maketable=$2
 shift 2
 reports=("$@")
-run=(${RUN:+"$RUN"})
-top=$(cd "$(dirname "$0")/.." && pwd)
-rm -rf "$room"
-mkdir -p "$room"
 table=$room/table profile=$room/profile vectors=$room/vectors requests=$room/requests
-tried=0 peer=() # the options -e and -f, if they are given
-. "$(dirname "$0")/messages.sh"
-
-fail() {
-    echo "report.sh: $*" >&2
-    exit 1
-}
+peer=() # the options -e and -f, if they are given
 fresh() {
     "$maketable" table "$top/examples/households.txt" >"$table"
     "$maketable" profile "$top/examples/households.txt" >"$profile"
@@ -330,7 +322,7 @@ says 1 'the example of ndushavire-report(1)' <"$room/shown"
 lay "$lir"
 for report in "${reports[@]}"; do
     of() { "${run[@]}" "$report" "$@" >"$room/said" 2>"$room/errors"; }
-    version=$(sed -n 's/^#define NDUSHAVIRE_VERSION "\(.*\)"$/\1/p' "$top/include/ndushavire.h")
+    version=$(header_version)
     of --version && [ "$(cat "$room/said")" = "ndushavire-report $version" ] || fail "$report --version says '$(cat "$room/said")'"
     of --help && grep -q '^usage: ndushavire-report \[-e EDITION\] \[-f FEATURES\] TABLE' "$room/said" || fail "$report --help says '$(cat "$room/said")'"
     # A pipe, and no vectors.

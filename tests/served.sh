@@ -1,23 +1,13 @@
 #!/usr/bin/env bash
 # served.sh ROOM MAKETABLE ARCHIVES CC..: builds the daemon of the examples and gives it to a client of its own (client.py). Then it puts one
 # fault after the other into the daemon, and sees that the client notices each. RUN, if set, is the emulator.
-set -euo pipefail
-room=$1 maketable=$2 archives=($3)
+. "$(dirname "$0")/script.sh"
+make_room "$1"
+make_memory disk # a flush takes what slow-disk.h says
+maketable=$2 archives=($3)
 shift 3
 compiler=("$@")
-run=(${RUN:+"$RUN"})
-tests=$(dirname "$0")
-top=$tests/..
-rm -rf "$room"
-mkdir -p "$room"
-disk=$(mktemp -d -p /dev/shm served.XXXXXX 2>/dev/null) || disk=$(mktemp -d -p "$(cd "$room" && pwd)") # in memory, where a flush takes what slow-disk.h says
 chmod 711 "$disk" # a daemon of another user comes by
-trap 'wait; chmod -R u+w "$disk"; rm -rf "$disk"' EXIT
-
-fail() {
-    echo "served.sh: $*" >&2
-    exit 1
-}
 command -v python3 >/dev/null || fail 'python3 is missing (Debian: python3)'
 cp -r "$top/examples" "$room/source"
 
@@ -212,8 +202,6 @@ with 'a request before the CER' greeting daemon.c 's/^    return peer->open || .
 with 'an end without a word' ending daemon.c 's/\.open) ask(&peers\[i\], DISCONNECT);/.open) continue;/'
 for pid in "${pids[@]: -4}"; do wait "$pid"; done
 
-# No daemon outlives its trial: each has this run's folder among its arguments.
-left=$(grep -l -F -e "$disk" /proc/[0-9]*/cmdline 2>/dev/null || true)
-for process in $left; do kill -KILL "$(basename "$(dirname "$process")")" || true; done
-[ -z "$left" ] || fail "a daemon is left running: $left"
+left=$(still_running)
+[ -z "$left" ] || fail "a daemon outlives its trial: $left"
 echo "served.sh: the daemon of the examples serves its client, and each of $started faults is noticed"

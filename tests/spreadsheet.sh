@@ -3,22 +3,13 @@
 # installs from Debian as root. LIST are the words that run the program ndushavire-list. As each saves it, a list is refused by 14, with the line that the page
 # says, or is the list as it was. The commands of the page put it into its form again; with the settings of the page the table comes back, and without them
 # the names that were altered are told. Status 0 if all is so, 1 if not, 2 if LibreOffice could not run.
-set -euo pipefail
-room=$1 maketable=$(realpath "$2")
+. "$(dirname "$0")/script.sh"
+make_room "$1" saved
+maketable=$(realpath "$2")
 shift 2
 list=("${@:1:$#-1}" "$(realpath "${@: -1}")")
-tests=$(cd "$(dirname "$0")" && pwd)
-page=$tests/../docs/LIST.md
-rm -rf "$room"
-mkdir -p "$room/saved"
-room=$(cd "$room" && pwd)
+page=$top/docs/LIST.md
 cd "$room"
-tried=0
-
-fail() {
-    echo "spreadsheet.sh: $*" >&2
-    exit 1
-}
 "$tests/cells.py" text >text
 "$maketable" table text >table
 "$maketable" profile text >profile

@@ -2,19 +2,11 @@
 # symbols.sh ROOM ARCHIVE SH_ARCHIVE CC..: which symbols the two archives have. Each has the functions that its header declares and no other that a linker
 # could see, none is in both, and neither needs more than the C library. Linked whole, in either order, they make one program, which calls both; and each
 # makes one alone. RUN, if set, is the emulator.
-set -euo pipefail
-room=$1 archive=$2 sh_archive=$3
+. "$(dirname "$0")/script.sh"
+make_room "$1"
+archive=$2 sh_archive=$3
 shift 3
 compiler=("$@")
-run=(${RUN:+"$RUN"})
-top=$(cd "$(dirname "$0")/.." && pwd)
-rm -rf "$room"
-mkdir -p "$room"
-
-fail() {
-    echo "symbols.sh: $*" >&2
-    exit 1
-}
 nm=$("${compiler[0]}" -print-prog-name=nm)
 defined() { "$nm" --extern-only --defined-only "$1" | awk 'NF == 3 { print $3 }' | LC_ALL=C sort; } # ARCHIVE; a symbol that is there twice is told twice
 needed() { "$nm" --undefined-only "$1" | awk 'NF == 2 { print $2 }' | LC_ALL=C sort -u; }           # ARCHIVE

@@ -1,22 +1,14 @@
 #!/usr/bin/env bash
 # tables.sh ROOM MAKETABLE SHOWTABLE CHECK..: what maketable makes is sound to each CHECK, what it cannot make sound it refuses,
 # and of each damaged table the first bad block is named; showtable says the same. RUN, if set, is the emulator that runs a CHECK.
-set -euo pipefail
+. "$(dirname "$0")/script.sh"
+. "$tests/blocks.sh"
 shopt -s lastpipe
-room=$1 maketable=$2 showtable=$3
+make_room "$1"
+maketable=$2 showtable=$3
 shift 3
 checks=("$@")
-run=(${RUN:+"$RUN"})
-rm -rf "$room"
-mkdir -p "$room"
 text=$room/text table=$room/table profile=$room/profile
-tried=0
-. "$(dirname "$0")/blocks.sh"
-
-fail() {
-    echo "tables.sh: $*" >&2
-    exit 1
-}
 
 # Every CHECK says this of the table and the profile, and ends with status 0 for a sound table and 1 for a bad one.
 says() { # EXPECTED ABOUT
@@ -365,7 +357,7 @@ ends() { # STATUS COMMAND..
     [ "$status" = "$1" ] && [ ! -s "$room/said" ] && [ -s "$room/errors" ] || fail "${*:2}: not reported, or status $status instead of $1"
     tried=$((tried + 1))
 }
-version=$(sed -n 's/^#define NDUSHAVIRE_VERSION "\(.*\)"$/\1/p' "$(dirname "$0")/../include/ndushavire.h")
+version=$(header_version)
 for check in "${checks[@]}"; do
     ends 2 "${run[@]}" "$check" "$table" "$room/none"
     ends 2 "${run[@]}" "$check" "$room" "$profile"

@@ -1,25 +1,16 @@
 #!/usr/bin/env bash
-# take.sh ROOM MAKETABLE CHECK CUT_TAKE TAKE..: each TAKE takes tables over in place, and tells its refusals apart by its status; what is refused, or
+# take.sh MAKETABLE CHECK CUT_TAKE TAKE..: each TAKE takes tables over in place, and tells its refusals apart by its status; what is refused, or
 # may not be written over, stays as it is to the byte. CUT_TAKE is the same built with cut.h: where a block cannot be written it says so, and
 # the area is refused at that block. RUN, if set, is the emulator.
-set -euo pipefail
-room=$1 maketable=$(realpath "$2") check=$(realpath "$3") cut_take=$(realpath "$4")
-shift 4
+. "$(dirname "$0")/script.sh"
+. "$tests/blocks.sh"
+make_memory room
+maketable=$(realpath "$1") check=$(realpath "$2") cut_take=$(realpath "$3")
+shift 3
 takes=()
 for take in "$@"; do takes+=("$(realpath "$take")"); done
-run=(${RUN:+"$RUN"})
-top=$(cd "$(dirname "$0")/.." && pwd)
-. "$(dirname "$0")/blocks.sh"
-room=$(mktemp -d -p /dev/shm take.XXXXXX 2>/dev/null) || { rm -rf "$room" && mkdir -p "$room" && room=$(cd "$room" && pwd); } # in memory, where a flush takes no time
-trap 'rm -rf "$room"' EXIT
 mkdir "$room/here" "$room/good"
 sample=$top/examples/households.txt area=$room/here/table new=$room/good/table profile=$room/here/profile
-tried=0
-
-fail() {
-    echo "take.sh: $*" >&2
-    exit 1
-}
 # The sample in edition 2 with this issue; or its first records alone.
 of_issue() { # ISSUE TABLE [RECORDS]
     awk -v issue="$1" -v most="${3-99}" '/^host=/ { $0 = $0 " issue=" issue } /^public=/ && ++seen > most { exit } 1' "$sample" >"$room/text"
@@ -161,7 +152,7 @@ fails() { # PHRASE ABOUT ARGUMENT..
     [ "$(files)" = "$before" ] || fail "$2: $take alters $(files)"
     tried=$((tried + 1))
 }
-version=$(sed -n 's/^#define NDUSHAVIRE_VERSION "\(.*\)"$/\1/p' "$top/include/ndushavire.h")
+version=$(header_version)
 for take in "${takes[@]}"; do
     fails 'it is the area itself' 'the area twice' "$area" "$area" "$profile"
     fails 'it is the area itself' 'the profile as the area' "$profile" "$new" "$profile"

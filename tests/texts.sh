@@ -1,18 +1,11 @@
 #!/usr/bin/env bash
 # texts.sh ROOM MAKETABLE SHOWTABLE TEXTS SEED COUNT: from a table to text and back. The sample first, a household put into it
 # and one taken out with nothing else changed; profile files of every shape; what is refused; then TEXTS over COUNT random tables and vector files.
-set -euo pipefail
+. "$(dirname "$0")/script.sh"
 shopt -s lastpipe
-room=$1 maketable=$2 showtable=$3 texts=$4 seed=$5 count=$6
-sample=$(dirname "$0")/../examples/households.txt
-rm -rf "$room"
-mkdir -p "$room/random"
-tried=0
-
-fail() {
-    echo "texts.sh: $*" >&2
-    exit 1
-}
+make_room "$1" random
+maketable=$2 showtable=$3 texts=$4 seed=$5 count=$6
+sample=$top/examples/households.txt
 make_both() { # TEXT NAME: the files NAME.table and NAME.profile
     "$maketable" table "$1" >"$room/$2.table" && "$maketable" profile "$1" >"$room/$2.profile"
 }

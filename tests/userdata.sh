@@ -1,27 +1,19 @@
 #!/usr/bin/env bash
 # userdata.sh ROOM MAKETABLE USERDATA..: each USERDATA tells a voicemail box of each line of the sample what SH.md says, by both editions of the base
 # standard, refuses what it should, says which AVP of a request is at fault, and leaves the files as they were. RUN, if set, is the emulator.
-set -euo pipefail
+. "$(dirname "$0")/script.sh"
 shopt -s lastpipe
-room=$1 maketable=$2
+make_room "$1"
+maketable=$2
 shift 2
 programs=("$@")
-run=(${RUN:+"$RUN"})
-examples=$(dirname "$0")/../examples
-rm -rf "$room"
-mkdir -p "$room"
+examples=$top/examples
 table=$room/table profile=$room/profile request=$room/request
 "$maketable" table "$examples/households.txt" >"$table"
 "$maketable" profile "$examples/households.txt" >"$profile"
 cp "$table" "$room/table.before"
 cp "$profile" "$room/profile.before"
-tried=0
 peer=()
-
-fail() {
-    echo "userdata.sh: $*" >&2
-    exit 1
-}
 # The request on standard input: the program ends with STATUS, and says EXPECTED but for the lines of digits.
 gets() { # STATUS ABOUT EXPECTED
     local program status said

@@ -2,23 +2,15 @@
 # vectors.sh ROOM MAKETABLE SHOWTABLE CHECK..: vector files that maketable makes are sound to each CHECK, what it cannot make sound it
 # refuses, and of each damaged file the first bad block is named; showtable says the same, writes the text again, and counts what is
 # unused. RUN, if set, is the emulator that runs a CHECK.
-set -euo pipefail
+. "$(dirname "$0")/script.sh"
+. "$tests/blocks.sh"
 shopt -s lastpipe
-room=$1 maketable=$2 showtable=$3
+make_room "$1"
+maketable=$2 showtable=$3
 shift 3
 checks=("$@")
-run=(${RUN:+"$RUN"})
-examples=$(dirname "$0")/../examples
-rm -rf "$room"
-mkdir -p "$room"
+examples=$top/examples
 text=$room/text table=$room/table profile=$room/profile vectors=$room/vectors
-tried=0
-. "$(dirname "$0")/blocks.sh"
-
-fail() {
-    echo "vectors.sh: $*" >&2
-    exit 1
-}
 "$maketable" table "$examples/households.txt" >"$table"
 "$maketable" profile "$examples/households.txt" >"$profile"
 

@@ -1,17 +1,12 @@
 #!/usr/bin/env bash
 # version.sh VERSION..: one version everywhere. VERSION prints the number of the library that was linked; it is the header's, in both forms, that
 # of the definition in crates/, that of the programs' --version, the one that pkg-config will say, and the one that README.md says this is.
-set -euo pipefail
-cd "$(dirname "$0")/.."
-
-fail() {
-    echo "version.sh: $*" >&2
-    exit 1
-}
+. "$(dirname "$0")/script.sh"
+cd "$top"
 said() { # WHAT EXPECTED FOUND
     [ "$2" = "$3" ] || fail "the header is of $version, and $1 says '$3' instead of '$2'"
 }
-version=$(sed -n 's/^#define NDUSHAVIRE_VERSION "\(.*\)"$/\1/p' include/ndushavire.h)
+version=$(header_version)
 [[ $version =~ ^(0|[1-9][0-9]*)\.(0|[1-9][0-9]?)\.(0|[1-9][0-9]?)$ ]] || fail "the header's version is '$version'"
 number=$((BASH_REMATCH[1] * 10000 + BASH_REMATCH[2] * 100 + BASH_REMATCH[3]))
 said NDUSHAVIRE_VERSION_NUMBER "$number" "$(sed -n 's/^#define NDUSHAVIRE_VERSION_NUMBER \([0-9]*\) .*/\1/p' include/ndushavire.h)"

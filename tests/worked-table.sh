@@ -2,16 +2,10 @@
 # worked-table.sh ROOM MAKETABLE SHOWTABLE: the worked table, in both editions, and vector of docs/TABLE.md. Their texts make the blocks that
 # stand there, byte for byte, showtable writes these texts again, the sum that the page works out is right, the family's text is shown again and
 # refused as the page says once one line of its set is registered alone, and the sample's vectors are counted as it says.
-set -euo pipefail
-room=$1 maketable=$2 showtable=$3
-page=$(dirname "$0")/../docs/TABLE.md
-rm -rf "$room"
-mkdir -p "$room"
-
-fail() {
-    echo "worked-table.sh: $*" >&2
-    exit 1
-}
+. "$(dirname "$0")/script.sh"
+make_room "$1"
+maketable=$2 showtable=$3
+page=$top/docs/TABLE.md
 sed -n '/^## A worked table/,/^## As text/p' "$page" >"$room/section"
 sed -n '/^    host=/,/^    profile=/s/^    //p; /^$/p' "$room/section" | sed -n '/^host=/,/^profile=/p' >"$room/text"
 blocks_in() { sed -n 's/^    \([0-9]\{4\}\( [0-9a-f]\{2\}\)\{16\}\) .*/\1/p'; }

@@ -1,11 +1,8 @@
 //! What the take-over promises: wherever it is cut, and whichever of its blocks are written, the area reads as the old table, as the new
 //! one, or is refused.
 
-use std::ops::Range;
-
 use crate::block::{word_at, BLOCK};
 use crate::cases::{Case, Slice};
-use crate::gen::{self, Stream};
 use crate::rng::Rng;
 use crate::slip::Slip;
 use crate::table::{check, header};
@@ -129,20 +126,4 @@ fn choices(blocks: usize) -> Vec<Vec<bool>> {
         true => (0..1u32 << blocks).map(|bits| (0..blocks).map(|block| bits >> block & 1 == 1).collect()).collect(),
         false => (0..TRIED).map(|_| (0..blocks).map(|_| rng.coin()).collect()).collect(),
     }
-}
-
-/// Cuts the take-overs among these cases; true if none breaks the promise, and each outcome came up.
-pub fn cuts(seed: u64, numbers: Range<u64>, slip: Slip) -> bool {
-    let mut cuts = Cuts::default();
-    for number in numbers {
-        let case = gen::make(Stream::Takes, seed, number).case;
-        if let Err(broken) = cuts.cut(&case, slip) {
-            println!("case {number} of seed {seed} (gen --kind takes --seed {seed} --from {number} --count 1)");
-            println!("  {broken}");
-            return false;
-        }
-    }
-    let Cuts { taken, old, new, refused } = cuts;
-    println!("{taken} take-overs, cut: {old} areas read as the old table, {new} as the new one, {refused} are refused");
-    [taken, old, new, refused].iter().all(|count| *count > 0)
 }

@@ -6,7 +6,6 @@ use std::process::ExitCode;
 
 use reference::cases::Case;
 use reference::compare;
-use reference::cuts;
 use reference::demand3;
 use reference::engines;
 use reference::gen::{self, Stream};
@@ -27,10 +26,8 @@ reference gen      --kind K --seed S [--from F] --count N   write cases
 reference outcomes [--fault NAME]                           read cases, write outcomes
 reference compare  --kind K --seed S [--from F] --count N -- DRIVER [ARGUMENT ...]
 reference stats    --kind K --seed S [--from F] --count N   histogram
-reference faults   [--silent]                               list the deliberate faults, or those that no case can show
+reference faults                                            list the deliberate faults
 reference mutants  --seed S [--from F] --count N            whether each deliberate fault is noticed
-reference cuts     --seed S [--from F] --count N [--fault NAME]
-                                                            what the areas of cut take-overs read as
 kinds: tables, vectors, calls, reports, moves, takes, lists, voicemail, rows, plain;
 compare and stats alone: neighbours, neighbours-voicemail; compare alone: demand3, demand3-voicemail, runs, breaches";
 
@@ -91,13 +88,9 @@ fn run(arguments: &[String]) -> Result<bool, String> {
                 _ => stats::stats(options.stream()?, seed, numbers),
             })
         }
-        "cuts" => Ok(cuts::cuts(options.seed, options.numbers()?, options.slip)),
         "mutants" => Ok(mutants::mutants(options.seed, options.numbers()?)),
         "faults" => {
-            let faults = if options.silent { slip::SILENT } else { slip::FAULTS };
-            for (fault, what) in faults {
-                println!("{:30} {what}", format!("{fault:?}"));
-            }
+            slip::faults().for_each(|it| println!("{:30} {}", it.name, it.what));
             Ok(true)
         }
         _ => Err(USAGE.to_string()),
@@ -120,23 +113,17 @@ struct Options {
     from: u64,
     count: Option<u64>,
     slip: Slip,
-    silent: bool,
     command: Vec<String>,
 }
 
 impl Options {
     fn parse(arguments: &[String]) -> Result<Options, String> {
-        let mut options =
-            Options { kind: None, seed: 0, from: 0, count: None, slip: Slip::NONE, silent: false, command: vec![] };
+        let mut options = Options { kind: None, seed: 0, from: 0, count: None, slip: Slip::NONE, command: vec![] };
         let mut rest = arguments.iter();
         while let Some(name) = rest.next() {
             if name == "--" {
                 options.command = rest.cloned().collect();
                 break;
-            }
-            if name == "--silent" {
-                options.silent = true;
-                continue;
             }
             let value = rest.next().ok_or_else(|| format!("{name} needs a value"))?;
             let number = || value.parse::<u64>().map_err(|_| format!("{name} needs a number"));

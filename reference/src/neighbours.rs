@@ -127,7 +127,6 @@ pub fn compare(dialect: Dialect, seed: u64, numbers: Range<u64>, command: &[Stri
     if !fed.end()? || tally.pairs != numbers.end - numbers.start {
         return Ok(false);
     }
-    tally.print_short();
     println!("{}; {:.1} s", tally.sum(), began.elapsed().as_secs_f64());
     // Fewer by chance is no fault here: where few are expected none is asked for, so that a pair can be run again by itself.
     Ok(!tally.is_thin(|pairs, one_in| if pairs < 100 * one_in { 0 } else { least(pairs, one_in) }))
@@ -188,16 +187,6 @@ impl Tally {
         for (row, count) in &self.rows {
             println!("{count:9} {:8.3}%  {row}", *count as f64 * 100.0 / self.pairs as f64);
         }
-    }
-
-    /// The rows that begin with the same word in one line.
-    fn print_short(&self) {
-        let mut lines: BTreeMap<&str, Vec<String>> = BTreeMap::new();
-        for (row, count) in &self.rows {
-            let (first, rest) = row.split_once(' ').unwrap_or((row, ""));
-            lines.entry(first.trim_end_matches(':')).or_default().push(format!("{count} {rest}"));
-        }
-        lines.iter().for_each(|(first, rest)| println!("  {first}: {}", rest.join(", ")));
     }
 
     fn sum(&self) -> String {

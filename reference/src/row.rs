@@ -4,7 +4,7 @@ use crate::refuse::LEAST_BUFFER;
 use crate::report::{differing, next, Next};
 use crate::serve::{call, parts};
 use crate::slip::{Fault, Slip};
-use crate::stated::{Stated, RFC_3588};
+use crate::stated::{Stated, RFC_3588, RFC_6733};
 use crate::verdict::Why;
 use crate::{table, vectors};
 
@@ -39,6 +39,8 @@ struct So {
     /// Only for a faulty program: how many records the requests altered, all and the last one alone.
     records: usize,
     by_last: usize,
+    /// And whether the last one marked a vector.
+    marked_by_last: bool,
 }
 
 /// The files as they came; only for a faulty program.
@@ -120,7 +122,8 @@ fn step(lent: &mut Lent, piece: &[u8], so: &mut So, came: &Came, slip: Slip) -> 
     };
     so.records += so.by_last;
     so.altered |= so.by_last > 0;
-    so.marked |= vectors != *lent.vectors;
+    so.marked_by_last = vectors != *lent.vectors;
+    so.marked |= so.marked_by_last;
     so.read += piece.len();
     so.answers += (number == 0) as u32;
     if number == 0 || !slip.is(Fault::RowRefusedUnworded) {
@@ -166,10 +169,15 @@ fn own_word(lent: &Lent, so: &So, came: &Came, number: u64, slip: Slip) -> u64 {
         Some(Fault::RowMarkedIsAltered) => so.altered || so.marked,
         _ => so.altered,
     };
-    let marked = so.marked && !slip.is(Fault::RowMarkedNotTold);
+    let marked = match slip.0 {
+        Some(Fault::RowMarkedNotTold) => false,
+        Some(Fault::RowMarkedByLast) => so.marked_by_last,
+        _ => so.marked,
+    };
     let flags = match slip.0 {
         Some(Fault::RowFlagsTurned) => u64::from(altered) << 1 | u64::from(marked),
         Some(Fault::RowAlteredCounted) => so.records as u64 & 0xFFFF,
+        Some(Fault::RowStopTellsNothing) if number != 0 => 0,
         _ => u64::from(marked) << 1 | u64::from(altered),
     };
     let value = match slip.0 {
@@ -210,7 +218,9 @@ fn refused(lent: &Lent, slip: Slip) -> Option<u64> {
 fn stated(stated: Stated, slip: Slip) -> Stated {
     match slip.0 {
         Some(Fault::RowOfOlderPeers) if stated.has_known_peer() => Stated { peer: RFC_3588, ..stated },
+        Some(Fault::RowOfNewerPeers) if stated.has_known_peer() => Stated { peer: RFC_6733, ..stated },
         Some(Fault::RowOfNoFeatures) => Stated { features: 0, ..stated },
+        Some(Fault::RowOfAllFeatures) => Stated { features: u32::MAX, ..stated },
         _ => stated,
     }
 }

@@ -16,35 +16,10 @@ use reference::vectors;
 
 const ISSUES: [u32; 5] = [0, 1, 0x0102_0304, 0x8000_0000, u32::MAX];
 
-/// A header block of edition 2 by the places that the documents give, with so many records to follow.
-fn header(count: u32, issue: u32) -> Vec<u8> {
-    let mut block = vec![0; 512];
-    block[..2].copy_from_slice(&[1, 2]);
-    block[8..12].copy_from_slice(&count.to_be_bytes());
-    block[13..15].copy_from_slice(&[8, 4]);
-    block[16..24].copy_from_slice(b"hss.isle");
-    block[80..84].copy_from_slice(b"isle");
-    block[408..412].copy_from_slice(&issue.to_be_bytes());
-    summed(block)
-}
-
-/// A record in state 0, without a server name.
-fn block(number: u8, public: &str, set: u16, issue: u32) -> Vec<u8> {
-    let mut block = vec![0; 512];
-    block[..2].copy_from_slice(&[2, 2]);
-    block[7] = number;
-    block[13..15].copy_from_slice(&[public.len() as u8, 1]);
-    block[16..16 + public.len()].copy_from_slice(public.as_bytes());
-    block[144] = b'p';
-    block[406..408].copy_from_slice(&set.to_be_bytes());
-    block[408..412].copy_from_slice(&issue.to_be_bytes());
-    summed(block)
-}
-
 /// Three records with these set numbers.
 fn second(issue: u32, sets: [u16; 3]) -> Vec<u8> {
-    let blocks = [block(1, "a", sets[0], issue), block(2, "b", sets[1], issue), block(3, "c", sets[2], issue)];
-    [header(3, issue), blocks.concat()].concat()
+    let blocks = [block_of(1, "a", sets[0], issue), block_of(2, "b", sets[1], issue), block_of(3, "c", sets[2], issue)];
+    [header_of(3, issue), blocks.concat()].concat()
 }
 
 /// The same in edition 1.
@@ -89,7 +64,7 @@ fn any_issue_and_any_set_is_sound() {
         for set in [0, 1, 2, 255, 256, 65_535] {
             assert_eq!(check(&second(issue, [set, 0, 1]), 0), Ok(3), "{issue} {set}");
         }
-        assert_eq!(check(&header(0, issue), 0), Ok(0));
+        assert_eq!(check(&header_of(0, issue), 0), Ok(0));
     }
     assert_eq!(check(&first(), 0), Ok(3));
 }
@@ -151,8 +126,8 @@ fn a_move_writes_edition_issue_and_check_word_and_nothing_else() {
     for issue in ISSUES {
         assert_eq!(moved_forward(&first(), 0, issue), (Ok(3), second(issue, [0; 3])));
         assert_eq!(moved_back(&second(issue, [0; 3]), 0), (Ok(3), first()));
-        assert_eq!(moved_forward(&with_form(&header(0, 0), 0..1, 1, 0), 0, issue), (Ok(0), header(0, issue)));
-        assert_eq!(moved_back(&header(0, issue), 0), (Ok(0), with_form(&header(0, 0), 0..1, 1, 0)));
+        assert_eq!(moved_forward(&with_form(&header_of(0, 0), 0..1, 1, 0), 0, issue), (Ok(0), header_of(0, issue)));
+        assert_eq!(moved_back(&header_of(0, issue), 0), (Ok(0), with_form(&header_of(0, 0), 0..1, 1, 0)));
     }
 }
 

@@ -34,15 +34,6 @@ fn told(features: u32, request: &[u8]) -> (String, u64) {
     (result(&done.answer), done.place)
 }
 
-fn is(result: &str, place: u64) -> (String, u64) {
-    (result.to_string(), place)
-}
-
-fn flagged(mut avp: Vec<u8>, flags: u8) -> Vec<u8> {
-    avp[4] = flags;
-    avp
-}
-
 /// 266, 629 and 630, as the standard has them.
 fn members(vendor: u32, list: u32, bits: u32) -> [Vec<u8>; 3] {
     [number(266, vendor), flagged(number(629, list), 0x80), flagged(number(630, bits), 0x80)]

@@ -33,21 +33,12 @@ fn told(peer: u32, request: &[u8]) -> (String, u64) {
     (result(&done.answer), done.place)
 }
 
-fn is(result: &str, place: u64) -> (String, u64) {
-    (result.to_string(), place)
-}
-
 fn vendor() -> Vec<u8> {
     number(266, 10_415)
 }
 
 fn application() -> Vec<u8> {
     number(258, 16_777_216)
-}
-
-fn flagged(mut avp: Vec<u8>, flags: u8) -> Vec<u8> {
-    avp[4] = flags;
-    avp
 }
 
 /// An assignment of Alice's with these members in its 260, and these AVPs before that and behind all.

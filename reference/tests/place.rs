@@ -25,15 +25,6 @@ fn told_over(request: &[u8], record: RecordModel) -> (String, u64) {
     (result(&done.answer), done.place)
 }
 
-fn is(result: &str, place: u64) -> (String, u64) {
-    (result.to_string(), place)
-}
-
-fn flagged(mut avp: Vec<u8>, flags: u8) -> Vec<u8> {
-    avp[4] = flags;
-    avp
-}
-
 fn lengthened(mut avp: Vec<u8>, length: u32) -> Vec<u8> {
     avp[5..8].copy_from_slice(&length.to_be_bytes()[1..]);
     avp

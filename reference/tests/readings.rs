@@ -1,7 +1,7 @@
 //! README.md's tables of what shows each reading of document 02's requests name rows and faults that there are.
 
 use reference::gen::STREAMS;
-use reference::slip::{by_name, FAULTS, SILENT};
+use reference::slip::{by_name, faults, SILENT};
 use reference::stats::required_rows;
 
 /// The rows of the table under this heading, each as its columns.
@@ -86,16 +86,16 @@ fn every_fault_about_a_request_goes_against_a_reading() {
                 .concat();
         all.into_iter().any(|word| what.contains(word))
     };
-    for (fault, what) in FAULTS.iter().filter(|(_, what)| is_about(what)) {
-        assert!(named.contains(&format!("{fault:?}").as_str()), "{fault:?}: {what}");
+    for it in faults().filter(|it| is_about(it.what)) {
+        assert!(named.contains(&it.name), "{}: {}", it.name, it.what);
     }
 }
 
 #[test]
 fn the_readme_says_why_no_case_shows_a_silent_fault() {
     let readme = include_str!("../README.md");
-    for (fault, _) in SILENT {
-        let said = readme.split("No case can show").skip(1).filter_map(|it| it.split("\n\n").next());
-        assert!(said.into_iter().any(|it| it.contains(&format!("`{fault:?}`"))), "{fault:?}");
+    for it in SILENT {
+        let said = readme.split("No case can show").skip(1).filter_map(|text| text.split("\n\n").next());
+        assert!(said.into_iter().any(|text| text.contains(&format!("`{}`", it.name))), "{}", it.name);
     }
 }

@@ -12,7 +12,7 @@ use reference::kinds::Command;
 use reference::message::Message;
 use reference::read::{read, SEVERAL};
 use reference::report::{name, word};
-use reference::slip::{Fault, Slip, FAULTS, SILENT};
+use reference::slip::{Fault, Slip, SILENT};
 use reference::stated::Stated;
 use reference::table::{check, Table};
 use reference::vectors::Vectors;
@@ -32,14 +32,18 @@ fn no_case_shows_a_silent_fault() {
                 continue;
             }
             let truly = case.outcome(Slip::NONE);
-            for (fault, what) in SILENT {
-                assert!(case.outcome(Slip::of(*fault)) == truly, "{stream:?} {number} shows {fault:?}: {what}");
+            for it in SILENT {
+                assert!(
+                    case.outcome(Slip::of(it.fault)) == truly,
+                    "{stream:?} {number} shows {}: {}",
+                    it.name,
+                    it.what
+                );
             }
             altering += (case.entry == Entry::Decide && case.entry.changed(&truly, Slice::Table)) as u32;
         }
     }
     assert!(altering > 10, "{altering}");
-    assert!(SILENT.iter().all(|(silent, _)| FAULTS.iter().all(|(fault, _)| fault != silent)));
 }
 
 /// What is decided of a request, whatever the table.

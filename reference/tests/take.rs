@@ -14,29 +14,10 @@ use reference::stated::Stated;
 use reference::table::{check, check_exactly};
 use reference::take::{issues_found, take, write};
 
-/// A table of edition 2 with these public identities, all of `p`, by the places that the documents give.
+/// A table of edition 2 with these public identities, all of `p`.
 fn table(issue: u32, publics: &[&str]) -> Vec<u8> {
-    let mut header = vec![0; 512];
-    header[..2].copy_from_slice(&[1, 2]);
-    header[11] = publics.len() as u8;
-    header[13..15].copy_from_slice(&[8, 4]);
-    header[16..24].copy_from_slice(b"hss.isle");
-    header[80..84].copy_from_slice(b"isle");
-    let mut blocks = vec![header];
-    for (number, public) in (1..).zip(publics) {
-        let mut block = vec![0; 512];
-        block[..2].copy_from_slice(&[2, 2]);
-        block[7] = number;
-        block[13..15].copy_from_slice(&[public.len() as u8, 1]);
-        block[16..16 + public.len()].copy_from_slice(public.as_bytes());
-        block[144] = b'p';
-        blocks.push(block);
-    }
-    for block in &mut blocks {
-        block[408..412].copy_from_slice(&issue.to_be_bytes());
-        *block = summed(block.clone());
-    }
-    blocks.concat()
+    let blocks = (1..).zip(publics).map(|(number, public)| block_of(number, public, 0, issue));
+    [header_of(publics.len() as u32, issue)].into_iter().chain(blocks).collect::<Vec<Vec<u8>>>().concat()
 }
 
 /// The same in edition 1.

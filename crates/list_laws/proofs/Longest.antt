@@ -54,7 +54,8 @@ unfolding digitCount
 five-digits n h =
     omega (
       arith,
-      more-next 8 n 3 (more-next 7 (n / 10) 2 (more-next 6 (n / 10 / 10) 1 (more-next 5 (n / 10 / 10 / 10) 0 (more-none 5 (n / 10 / 10 / 10 / 10) (omega arith))))),
+      more-next 8 n 3
+          (more-next 7 (n / 10) 2 (more-next 6 (n / 10 / 10) 1 (more-next 5 (n / 10 / 10 / 10) 0 (more-none 5 (n / 10 / 10 / 10 / 10) (omega arith))))),
     )
 
 -- a number more in a line, of d digits at most

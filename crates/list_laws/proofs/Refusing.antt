@@ -59,7 +59,8 @@ module _ (t : List ℕ) (file : ℕ) (area : List ℕ) where
       is : (a b : ℕ) → ExportRefuses t file area a b → Refused a b ≡ Refused number value → ExportRefuses t file area number value
       is a b r g = rw (number-is a number b value g, value-is a number b value g) at r
 
-      ended : (count : ℕ) → SoundSecond t file count → ((k : ℕ) → 1 ≤ k → k ≤ count → listableAt t k ≡ true) → (x : Bool) → ltb (length area) (length (listOf t)) ≡ x
+      ended : (count : ℕ) → SoundSecond t file count → ((k : ℕ) → 1 ≤ k → k ≤ count → listableAt t k ≡ true) → (x : Bool)
+          → ltb (length area) (length (listOf t)) ≡ x
           → cond x (refusing area 15 0) (came (Written (length (listOf t))) (over (listOf t) area)) .said ≡ Refused number value
           → ExportRefuses t file area number value
       ended count f l true h g = is 15 0 (short count f l (ltb-true (length area) (length (listOf t)) h)) g

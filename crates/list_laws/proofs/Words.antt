@@ -148,6 +148,6 @@ there-and-back table profile area r area' bytes p zero-number other s other' roo
         let x : exported table (length profile) area ≡ came (Written n) area' = rw (p .list-is, ← e) in
         let g : imported (take n area') (blockOf table 0) (length profile) other ≡ writing other table =
         gives-back table (length profile) area n area' bytes x other in
-        let o : imported (take (valueIn r) area') (blockOf table 0) (length profile) other ≡ came (Written (length table)) (table ++ drop (length table) other) =
+        let o : imported (take (valueIn r) area') (blockOf table 0) file other ≡ came (Written (length table)) (table ++ drop (length table) other) =
         rw v (g ∙ rw (le-ltb (length other) (length table) room)) in
         (omega (arith, q .word-is ∙ ap (λ (a : AfterList). listWord (a .said)) o), q .table-is ∙ ap (λ (a : AfterList). a .area) o)

@@ -136,7 +136,8 @@ an-export =
     }
 
 -- so import gives its table over the front of any area that holds it, and 15 in a shorter one
-pub accepted : (area : List ℕ) → length table ≤ length area → imported list (header 2 2) 7 area ≡ came (Written (length table)) (table ++ drop (length table) area)
+pub accepted : (area : List ℕ) → length table ≤ length area
+    → imported list (header 2 2) 7 area ≡ came (Written (length table)) (table ++ drop (length table) area)
 accepted area h = accepts-exactly list (header 2 2) 7 area header-octets .given an-export h
 
 pub narrow-area : (area : List ℕ) → length area < length table → imported list (header 2 2) 7 area ≡ refusing area 15 0

@@ -154,7 +154,7 @@ fn put(avps: &mut Avps, vendor: Option<u32>, code: u32, data: &[u8], marked: boo
 pub fn elsewhere(slip: Slip) -> Option<Fault> {
     slip.0.filter(|fault| {
         matches!(
-            fault,
+            *fault,
             Fault::OwnListBeforeRealm
                 | Fault::OwnListAfterUserName
                 | Fault::OwnListAfterServerName

@@ -177,6 +177,15 @@ pub fn changed(rng: &mut Rng, old: &TableModel, profile: &[u8]) -> TableModel {
     new
 }
 
+/// Writes a new table in part: its first blocks (0), or any of them (1). Gives which, and the block that is bad then.
+pub fn written_in_part(rng: &mut Rng, area: &mut Vec<u8>, fresh: &[u8]) -> (usize, Option<usize>) {
+    area.resize(area.len().max(fresh.len()), 0);
+    match rng.coin() {
+        true => (0, cut(rng, area, fresh)),
+        false => (1, scattered(rng, area, fresh)),
+    }
+}
+
 /// Writes the first blocks of a new table, as a take-over that is cut does: none, some or all of them. Gives the block that is bad then.
 pub fn cut(rng: &mut Rng, area: &mut [u8], fresh: &[u8]) -> Option<usize> {
     let blocks = fresh.len() / BLOCK;

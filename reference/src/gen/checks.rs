@@ -24,7 +24,7 @@ pub fn case(rng: &mut Rng) -> Made {
     if rng.once_in(16) {
         return cut(rng, sound);
     }
-    let mut subject = damage::Subject { bytes: sound.model.encode(), profile: sound.profile, model: sound.model };
+    let mut subject = damage::Subject::of(sound.model, sound.profile);
     let mut damaged = None;
     if rng.below(8) == 0 {
         notes.push("undamaged");
@@ -51,10 +51,6 @@ pub fn case(rng: &mut Rng) -> Made {
 fn cut(rng: &mut Rng, sound: Sound) -> Made {
     let mut area = areas::lengthened(rng, sound.model.encode());
     let fresh = areas::successor(rng, &sound.model, &sound.profile, &area).encode();
-    area.resize(area.len().max(fresh.len()), 0);
-    let (note, damaged) = match rng.coin() {
-        true => (CUTS[0], areas::cut(rng, &mut area, &fresh)),
-        false => (CUTS[1], areas::scattered(rng, &mut area, &fresh)),
-    };
-    Made { case: Case::check(rng.byte(), area, sound.profile), notes: vec![note], damaged }
+    let (which, damaged) = areas::written_in_part(rng, &mut area, &fresh);
+    Made { case: Case::check(rng.byte(), area, sound.profile), notes: vec![CUTS[which]], damaged }
 }

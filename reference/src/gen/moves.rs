@@ -46,7 +46,7 @@ pub fn case(rng: &mut Rng) -> Made {
         true => to_edition_2(rng, &mut sound.model),
         false => to_edition_1(&mut sound.model),
     }
-    let mut subject = damage::Subject { bytes: sound.model.encode(), profile: sound.profile, model: sound.model };
+    let mut subject = damage::Subject::of(sound.model, sound.profile);
     let mut damaged = None;
     if rng.once_in(4) {
         notes.push("damaged table");

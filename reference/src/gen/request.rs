@@ -4,6 +4,13 @@ use crate::kinds::{Dialect, Kind, AUTH_APPLICATION_ID, VENDOR, VENDOR_ID};
 use crate::message::{padded, M, V};
 use crate::rng::Rng;
 
+/// Puts the header's length into a request, if it is there.
+pub fn tell_length(bytes: &mut [u8], length: usize) {
+    if let Some(told) = bytes.get_mut(1..4) {
+        told.copy_from_slice(&(length as u32).to_be_bytes()[1..]);
+    }
+}
+
 /// One AVP; it may lie about its length.
 #[derive(Clone, Debug)]
 pub struct Piece {

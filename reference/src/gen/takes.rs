@@ -111,7 +111,7 @@ fn half_taken(rng: &mut Rng, old: &TableModel, profile: &[u8], write: Writing) -
 
 /// The profile file stays.
 fn damaged(rng: &mut Rng, old: &TableModel, profile: &[u8]) -> Vec<u8> {
-    let mut subject = damage::Subject { bytes: old.encode(), profile: profile.to_vec(), model: old.clone() };
+    let mut subject = damage::Subject::of(old.clone(), profile.to_vec());
     damage::damage(rng, &mut subject, &mut Vec::new());
     subject.bytes
 }
@@ -185,7 +185,7 @@ fn given(rng: &mut Rng, mut new: TableModel, profile: Vec<u8>, notes: &mut Vec<&
         new.issue = None;
         new.records.iter_mut().for_each(|record| record.set = 0);
     }
-    let mut subject = damage::Subject { bytes: new.encode(), profile, model: new };
+    let mut subject = damage::Subject::of(new, profile);
     match which {
         1..=3 => {
             notes.push("damaged new table");

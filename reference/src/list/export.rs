@@ -23,7 +23,12 @@ pub fn export(table: &[u8], profile_length: usize, area: &mut [u8], slip: Slip) 
     if slip.is(Fault::ShortListBeforeUnlistable) {
         has_room(area, &list, slip)?;
     }
-    can_be_listed(table, slip)?;
+    if let Err(refusal) = can_be_listed(table, slip) {
+        if slip.is(Fault::UnlistableLinesWritten) {
+            put(area, &lines(table, slip)[..refusal.1 as usize].concat(), slip);
+        }
+        return Err(refusal);
+    }
     if let Err(refusal) = has_room(area, &list, slip) {
         if slip.is(Fault::ShortListWritten) {
             put(area, &list, slip);
@@ -35,6 +40,7 @@ pub fn export(table: &[u8], profile_length: usize, area: &mut [u8], slip: Slip) 
         Some(Fault::ExportReturnsCount) => table.records().count() as u32,
         Some(Fault::ExportReturnsLines) => table.records().count() as u32 + 1,
         Some(Fault::ListAreaByteShortTaken) => list.len() as u32,
+        Some(Fault::ListLengthIn16Bits) => written as u32 & 0xFFFF,
         _ => written as u32,
     })
 }

@@ -75,6 +75,7 @@ pub fn judge(list: &[u8], head: &[u8], profile_length: usize, slip: Slip) -> Res
     let first = match slip.0 {
         Some(Fault::LineCountFirst) => wrong_count(list, head).or(by_itself),
         Some(Fault::LaterFormFirst) => by_itself,
+        Some(Fault::RoomBeforeRules) => by_room,
         _ => None,
     };
     match first.or_else(|| [by_itself, by_rule, by_room].into_iter().flatten().min()) {
@@ -93,6 +94,7 @@ fn first_against_a_rule(records: &[Fields], head: &[u8], profile_length: usize, 
     };
     let slip_of_check = match slip.0 {
         Some(Fault::ListOrderNotAsked) => Slip::of(Fault::OrderNotAsked),
+        Some(Fault::ListEqualIdentitiesTaken) => Slip::of(Fault::EqualIdentitiesTaken),
         Some(Fault::ListSetsMayDisagree) => Slip::of(Fault::SetsMayDisagree),
         Some(Fault::ListRoamingNotAsked) => Slip::of(Fault::RoamingPastLastTaken),
         Some(Fault::ListPendingNotAsked) => Slip::of(Fault::PendingNameNotAsked),
@@ -111,11 +113,11 @@ fn first_without_room(records: &[Fields], count: u32, other: Option<Blame>, slip
     if slip.is(Fault::RoomAskedWhereMissing) && !is_missing {
         return None;
     }
-    let mut numbered = (1..).zip(records);
-    let (number, _) = numbered.find(|(number, fields)| {
+    let mut lacking = (1..).zip(records).filter(|(number, fields)| {
         let followers = u64::from(count.saturating_sub(*number));
         !has_room(&fields.names[0], followers, slip)
-    })?;
+    });
+    let (number, _) = if slip.is(Fault::RoomBlamesLast) { lacking.last()? } else { lacking.next()? };
     let line = if slip.is(Fault::RoomBlamesNext) { number + 2 } else { number + 1 };
     Some(Blame { line, reason: Reason::Room })
 }
@@ -204,6 +206,7 @@ fn write(area: &mut [u8], records: &[Fields], head: &[u8], list: &[u8], slip: Sl
         Some(Fault::ImportReturnsCount) => records.len() as u32,
         Some(Fault::ImportReturnsLines) => records.len() as u32 + 1,
         Some(Fault::ImportReturnsListLength) => list.len() as u32,
+        Some(Fault::TableLengthIn16Bits) => table.len() as u32 & 0xFFFF,
         _ => table.len() as u32,
     }
 }

@@ -232,6 +232,7 @@ impl<'a> Reader<'a> {
                 _ => told & 0xFFFF_FFFF,
             },
             Some(Fault::NumbersCutToField) => told.min(most.into()),
+            Some(Fault::BitsOver1Taken) if most == 1 => told.min(1),
             _ => told,
         };
         u32::try_from(within).ok().filter(|within| *within <= most)

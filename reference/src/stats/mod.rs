@@ -10,6 +10,7 @@ mod reports;
 mod required;
 mod rows;
 mod sets;
+mod shown;
 mod sizes;
 mod takes;
 mod voicemail;
@@ -45,13 +46,20 @@ impl Histogram {
         match (stream, why) {
             (Stream::Tables, Why::Checked(found)) => self.count_table(made, *found),
             (Stream::Vectors, Why::CheckedVectors(found)) => self.count_vectors(made, *found),
-            (Stream::Reports, _) => self.count_report(made, outcome),
-            (Stream::Moves, _) => self.count_move(made, outcome),
-            (Stream::Takes, _) => self.count_take(made, outcome),
-            (Stream::Lists, _) => self.count_list(made, outcome),
-            (Stream::Rows, _) => self.count_row(made, outcome),
+            (Stream::Reports, _) => self.count_made(made, reports::rows(&made.case, outcome)),
+            (Stream::Moves, _) => self.count_made(made, moves::rows(&made.case, outcome)),
+            (Stream::Takes, _) => self.count_made(made, takes::rows(&made.case, outcome)),
+            (Stream::Lists, _) => self.count_made(made, lists::rows(&made.case, outcome)),
+            (Stream::Rows, _) => self.count_made(made, rows::rows(&made.case, outcome)),
             _ => self.count_call(made, outcome, why),
         }
+    }
+
+    /// What was done to get a case, and what came of it.
+    fn count_made(&mut self, made: &Made, rows: Vec<String>) {
+        let notes: BTreeSet<&&str> = made.notes.iter().collect();
+        notes.iter().for_each(|note| self.add(format!("made by: {note}")));
+        rows.into_iter().for_each(|row| self.add(row));
     }
 
     fn add(&mut self, row: String) {
@@ -85,46 +93,16 @@ impl Histogram {
     fn count_check(&mut self, made: &Made, found: Result<u32, u32>) {
         let outcome = match (found, made.damaged) {
             (Ok(_), _) => "sound",
-            (Err(0), Some(0)) => "block 0, which was damaged",
             (Err(0), _) => "block 0",
             (Err(block), Some(damaged)) if block as usize == damaged => "the damaged block",
             (Err(block), Some(damaged)) if block as usize == damaged + 1 => "the block after the damaged one",
-            (Err(_), Some(_)) => "another block",
-            (Err(_), None) => "a record",
+            _ => "another block",
         };
         let twice = made.notes.contains(&"a second damage");
-        let mended = if made.notes.contains(&"mended") { ", mended" } else { "" };
         for note in made.notes.iter().filter(|note| note.contains(':') && !twice) {
-            self.add(format!("{note}{mended} -> {outcome}"));
+            self.add(format!("{note} -> {outcome}"));
         }
         self.add(format!("all -> {outcome}"));
-    }
-
-    fn count_report(&mut self, made: &Made, outcome: &Outcome) {
-        let notes: BTreeSet<&&str> = made.notes.iter().collect();
-        notes.iter().for_each(|note| self.add(format!("made by: {note}")));
-        reports::rows(&made.case, outcome).into_iter().for_each(|row| self.add(row));
-    }
-
-    fn count_row(&mut self, made: &Made, outcome: &Outcome) {
-        let notes: BTreeSet<&&str> = made.notes.iter().collect();
-        notes.iter().for_each(|note| self.add(format!("made by: {note}")));
-        rows::rows(&made.case, outcome).into_iter().for_each(|row| self.add(row));
-    }
-
-    fn count_move(&mut self, made: &Made, outcome: &Outcome) {
-        made.notes.iter().for_each(|note| self.add(format!("made by: {note}")));
-        moves::rows(&made.case, outcome).into_iter().for_each(|row| self.add(row));
-    }
-
-    fn count_take(&mut self, made: &Made, outcome: &Outcome) {
-        made.notes.iter().for_each(|note| self.add(format!("made by: {note}")));
-        takes::rows(&made.case, outcome).into_iter().for_each(|row| self.add(row));
-    }
-
-    fn count_list(&mut self, made: &Made, outcome: &Outcome) {
-        made.notes.iter().for_each(|note| self.add(format!("made by: {note}")));
-        lists::rows(&made.case, outcome).into_iter().for_each(|row| self.add(row));
     }
 
     fn count_call(&mut self, made: &Made, outcome: &Outcome, why: &Why) {
@@ -132,13 +110,6 @@ impl Histogram {
             self.add(format!("made by: {note}"));
         }
         let row = match why {
-            Why::Checked(_)
-            | Why::CheckedVectors(_)
-            | Why::Reported
-            | Why::Rowed
-            | Why::Moved(_)
-            | Why::TakenOver(_)
-            | Why::Listed(_) => return,
             Why::Refused(6) => format!("refused 6 to {}", asker(&made.case.held(Slice::Request))),
             Why::Refused(5) if disagrees(&made.case) => "refused 5, a set disagrees".to_string(),
             Why::Refused(5) if made.notes.contains(&"a cut take-over") => "refused 5, a cut take-over".to_string(),
@@ -160,6 +131,8 @@ impl Histogram {
                 }
                 self.decision(decision)
             }
+            // No call of a decision.
+            _ => return,
         };
         self.add(row);
         for row in [places::row(outcome.parts().1, &made.case, why), peers::row(&made.case, why)].into_iter().flatten()
@@ -198,8 +171,9 @@ impl Histogram {
                 format!("MAR: {state}: {result}")
             }
             _ => {
-                let many = if decision.records > 1 { "many" } else { "one or none" };
-                self.add(format!("SAR of {many}: {result}"));
+                if decision.records > 1 {
+                    self.add(format!("SAR of many: {result}"));
+                }
                 let (asked, keep) = (decision.asked_type, decision.keep as u8);
                 format!("SAR: type {asked:2}, {state}, keep {keep}: {result}")
             }
@@ -304,8 +278,7 @@ fn asker(request: &[u8]) -> &'static str {
         Ok(Command::ServerAssignment) => "a SAR",
         Ok(Command::LocationInfo) => "a LIR",
         Ok(Command::MultimediaAuth) => "a MAR",
-        Ok(Command::UserData) => "a UDR",
-        Err(_) => "a header fault",
+        Ok(Command::UserData) | Err(_) => "a header fault",
     }
 }
 

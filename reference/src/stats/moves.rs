@@ -1,7 +1,7 @@
 //! The rows of moves, and of the editions of tables.
 
 use super::sets;
-use super::sizes::size;
+use super::sizes::{size, sizes_wanted};
 use crate::block::{word_at, BLOCK};
 use crate::cases::{Case, Entry, Outcome, Slice};
 use crate::gen::moves::NOTES;
@@ -111,11 +111,7 @@ const SETS: [&str; 4] = ["set 1", "set 65,535", "a set whose last byte is 0", "a
 pub fn wanted() -> Vec<(String, u64)> {
     let mut wanted: Vec<(String, u64)> = Vec::new();
     for which in ["forward", "back"] {
-        for (size, times) in
-            [("0", 1), ("1", 1), ("2", 1), ("3 to 12", 1), ("13 to 255", 10), ("256 to 4,095", 10), ("4,096", 50)]
-        {
-            wanted.push((format!("{which}: {size} records"), times));
-        }
+        wanted.extend(sizes_wanted(which));
         wanted.extend(ISSUES.map(|issue| (format!("{which}: {issue}"), 1)));
         for what in
             ["the other edition", "block 0", "a record", "though a set is there", "a set disagrees", "a longer table"]

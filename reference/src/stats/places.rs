@@ -1,6 +1,7 @@
 //! The rows of places.
 
 use crate::cases::{Case, Slice};
+use crate::kinds::Dialect;
 use crate::message::Message;
 use crate::read::fault_of;
 use crate::slip::Slip;
@@ -22,13 +23,6 @@ pub fn row(place: u64, case: &Case, why: &Why) -> Option<String> {
 
 fn unplaced(case: &Case, why: &Why) -> Option<&'static str> {
     Some(match why {
-        Why::Checked(_)
-        | Why::CheckedVectors(_)
-        | Why::Reported
-        | Why::Rowed
-        | Why::Moved(_)
-        | Why::TakenOver(_)
-        | Why::Listed(_) => return None,
         // Only with these is there a request to read.
         Why::Refused(5 | 6) => {
             let request = case.held(Slice::Request);
@@ -40,7 +34,6 @@ fn unplaced(case: &Case, why: &Why) -> Option<&'static str> {
         Why::Refused(_) => "a refusal",
         Why::Header(_) => "a header fault",
         Why::Rule('b', _) => "(b)",
-        Why::Rule(..) => "another rule",
         Why::Missing(_) => "a missing AVP",
         Why::Unsupported(_) => "X5011",
         Why::Decided(decision) => match decision.result? {
@@ -51,26 +44,25 @@ fn unplaced(case: &Case, why: &Why) -> Option<&'static str> {
             Code::Base(_) => "B5012",
             Code::Experimental(_) => "an X result",
         },
+        // A rule that has a place, or no call of a decision.
+        _ => return None,
     })
 }
 
-/// The rows that there must be.
-pub fn wanted() -> Vec<String> {
-    let unplaced = [
+/// The rows that there must be of calls of an interface.
+pub fn wanted(dialect: Dialect) -> Vec<String> {
+    let placed = ["the first AVP's", "under 256", "256 to 4,095", "4,096 to 16,379", "16,380"].map(String::from);
+    let of_both = [
         "a refusal",
         "a refusal, though an AVP is at fault",
         "a header fault",
         "(b)",
         "a missing AVP",
         "a success",
-        "B5003",
-        "the SAR's B5005",
-        "the SAR's B5009",
-        "B5012",
         "an X result",
-        "X5011",
     ];
-    let placed = ["the first AVP's", "under 256", "256 to 4,095", "4,096 to 16,379", "16,380"].map(String::from);
-    let rows = placed.into_iter().chain(unplaced.iter().map(|what| format!("none for {what}")));
+    let of_cx = ["B5003", "the SAR's B5005", "the SAR's B5009", "B5012", "X5011"];
+    let unplaced = of_both.iter().chain(of_cx.iter().filter(|_| dialect == Dialect::Cx));
+    let rows = placed.into_iter().chain(unplaced.map(|what| format!("none for {what}")));
     rows.map(|row| format!("place: {row}")).collect()
 }

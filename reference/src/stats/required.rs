@@ -100,56 +100,8 @@ fn of_vectors() -> Vec<(String, u64)> {
     wanted
 }
 
-fn of_calls() -> Vec<(String, u64)> {
-    let mut wanted = Vec::new();
-    wanted.extend((1..=6).map(|number| format!("refused {number}")));
-    wanted.extend(
-        ["unknown peer: refused 12", "made by: an unknown peer", "made by: several refusals"].map(String::from),
-    );
-    wanted.push(format!("rule (h): {SEVERAL}"));
-    wanted.push("refused 5, a set disagrees".to_string());
-    wanted.push("refused 5, a cut take-over".to_string());
-    wanted.extend(takes::areas().map(|row| format!("decided over {row}")));
-    wanted.extend([5011, 3008, 3001, 3007].map(|code| format!("header: B{code}")));
-    rules(&mut wanted, Dialect::Cx);
-    missing(&mut wanted, Dialect::Cx);
-    results(&mut wanted);
-    authorizations_and_locations(&mut wanted);
-    assignments(&mut wanted);
-    answers(&mut wanted);
-    wanted.extend(places::wanted());
-    wanted.extend(moves::editions().into_iter().map(|row| format!("decided over {row}")));
-    wanted.push("request: 16,384 bytes".to_string());
-    wanted.push("request: over 65,536 bytes".to_string());
-    let made = twists(Dialect::Cx)
-        .map(|twist| twist.name)
-        .chain(MIXED)
-        .chain(OF_SETS)
-        .chain(OF_PEERS)
-        .chain(OF_FEATURES)
-        .chain(MANY);
-    wanted.extend(made.map(|name| format!("made by: {name}")));
-    wanted.extend(["UAR", "SAR", "LIR", "MAR"].map(|command| format!("refused 6 to a {command}")));
-    let mut rows: Vec<(String, u64)> = wanted.into_iter().map(|row| (row, ONE_IN)).collect();
-    rows.push(("refused 6 to a header fault".to_string(), 10 * ONE_IN));
-    rows.extend(MOST_PLACES.map(|(_, row)| (row.to_string(), 5 * ONE_IN)));
-    rows.extend(features::wanted().into_iter().map(|(row, times)| (row, times * ONE_IN)));
-    rows.extend(peers::wanted().into_iter().map(|(row, times)| (row, times * ONE_IN)));
-    rows.extend(authentication::wanted().into_iter().map(|(row, times)| (row, times * ONE_IN)));
-    rows.extend(sets::of_decisions_wanted().into_iter().map(|(row, times)| (row, times * ONE_IN)));
-    rows.extend(
-        sets::of_tables_wanted().into_iter().map(|(row, times)| (format!("decided over {row}"), times * ONE_IN)),
-    );
-    for size in ["13 to 255", "256 to 4,095", "4,096"] {
-        rows.push((format!("decided over {size} records"), 5 * ONE_IN));
-    }
-    for (size, times) in [("1", 2), ("2", 2), ("3 to 12", 1), ("13 to 255", 1), ("256 to 4,095", 10), ("4,096", 50)] {
-        rows.push((format!("sent of {size} vectors"), times * ONE_IN));
-    }
-    rows
-}
-
-fn of_voicemail() -> Vec<(String, u64)> {
+/// The rows of calls of either interface.
+fn of_either(dialect: Dialect) -> Vec<(String, u64)> {
     let mut wanted: Vec<String> = (1..=5).map(|number| format!("refused {number}")).collect();
     wanted.extend(
         ["unknown peer: refused 12", "made by: an unknown peer", "made by: several refusals"].map(String::from),
@@ -159,19 +111,63 @@ fn of_voicemail() -> Vec<(String, u64)> {
     wanted.push("refused 5, a cut take-over".to_string());
     wanted.extend(takes::areas().map(|row| format!("decided over {row}")));
     wanted.extend([5011, 3008, 3001, 3007].map(|code| format!("header: B{code}")));
-    rules(&mut wanted, Dialect::Sh);
-    missing(&mut wanted, Dialect::Sh);
+    rules(&mut wanted, dialect);
+    missing(&mut wanted, dialect);
+    wanted.extend(places::wanted(dialect));
     wanted.extend(moves::editions().into_iter().map(|row| format!("decided over {row}")));
     wanted.push("request: 16,384 bytes".to_string());
-    let made = twists(Dialect::Sh).map(|twist| twist.name).chain(OF_PEERS).chain(["a UDR"]);
-    wanted.extend(made.map(|name| format!("made by: {name}")));
+    for what in [
+        "no Session-Id",
+        "1 Proxy-Info",
+        "2 or more Proxy-Info",
+        "Failed-AVP",
+        "Failed-AVP without data",
+        "Failed-AVP with a Proxy-Info",
+        "over 16,384 bytes",
+        "over 32,000 bytes",
+    ] {
+        wanted.push(format!("answer: {what}"));
+    }
+    wanted.extend(twists(dialect).map(|twist| twist.name).chain(OF_PEERS).map(|name| format!("made by: {name}")));
     let mut rows: Vec<(String, u64)> = wanted.into_iter().map(|row| (row, ONE_IN)).collect();
-    rows.push(("request: over 65,536 bytes".to_string(), 2 * ONE_IN));
     rows.extend(peers::wanted().into_iter().map(|(row, times)| (row, times * ONE_IN)));
-    rows.extend(voicemail::wanted().into_iter().map(|(row, times)| (row, times * ONE_IN)));
     for size in ["13 to 255", "256 to 4,095", "4,096"] {
         rows.push((format!("decided over {size} records"), 5 * ONE_IN));
     }
+    rows
+}
+
+fn of_calls() -> Vec<(String, u64)> {
+    let mut wanted = vec!["refused 6".to_string()];
+    results(&mut wanted);
+    authorizations_and_locations(&mut wanted);
+    assignments(&mut wanted);
+    answers(&mut wanted);
+    wanted.push("request: over 65,536 bytes".to_string());
+    let made = MIXED.into_iter().chain(OF_SETS).chain(OF_FEATURES).chain(MANY);
+    wanted.extend(made.map(|name| format!("made by: {name}")));
+    wanted.extend(["UAR", "SAR", "LIR", "MAR"].map(|command| format!("refused 6 to a {command}")));
+    let mut rows = of_either(Dialect::Cx);
+    rows.extend(wanted.into_iter().map(|row| (row, ONE_IN)));
+    rows.push(("refused 6 to a header fault".to_string(), 10 * ONE_IN));
+    rows.extend(MOST_PLACES.map(|(_, row)| (row.to_string(), 5 * ONE_IN)));
+    rows.extend(features::wanted().into_iter().map(|(row, times)| (row, times * ONE_IN)));
+    rows.extend(authentication::wanted().into_iter().map(|(row, times)| (row, times * ONE_IN)));
+    rows.extend(sets::of_decisions_wanted().into_iter().map(|(row, times)| (row, times * ONE_IN)));
+    rows.extend(
+        sets::of_tables_wanted().into_iter().map(|(row, times)| (format!("decided over {row}"), times * ONE_IN)),
+    );
+    for (size, times) in [("1", 2), ("2", 2), ("3 to 12", 1), ("13 to 255", 1), ("256 to 4,095", 10), ("4,096", 50)] {
+        rows.push((format!("sent of {size} vectors"), times * ONE_IN));
+    }
+    rows
+}
+
+fn of_voicemail() -> Vec<(String, u64)> {
+    let mut rows = of_either(Dialect::Sh);
+    rows.push(("made by: a UDR".to_string(), ONE_IN));
+    rows.push(("request: over 65,536 bytes".to_string(), 2 * ONE_IN));
+    rows.extend(voicemail::wanted().into_iter().map(|(row, times)| (row, times * ONE_IN)));
     rows
 }
 
@@ -266,18 +262,12 @@ fn assignments(wanted: &mut Vec<String>) {
 
 fn answers(wanted: &mut Vec<String>) {
     for what in [
-        "no Session-Id",
-        "1 Proxy-Info",
-        "2 or more Proxy-Info",
         "Server-Capabilities",
         "User-Name",
         "Server-Name",
         "User-Data",
         "User-Data of 4,096",
         "User-Data from past 65,536",
-        "Failed-AVP",
-        "Failed-AVP without data",
-        "Failed-AVP with a Proxy-Info",
         "an item",
         "the own list",
         "records rewritten",
@@ -285,8 +275,6 @@ fn answers(wanted: &mut Vec<String>) {
         "of edition 2 and no set rewritten",
         "of a set rewritten",
         "vectors marked",
-        "over 16,384 bytes",
-        "over 32,000 bytes",
     ] {
         wanted.push(format!("answer: {what}"));
     }

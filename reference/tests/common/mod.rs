@@ -159,6 +159,41 @@ pub fn summed(mut block: Vec<u8>) -> Vec<u8> {
     block
 }
 
+/// A header block of edition 2 by the places that the documents give, with so many records to follow.
+pub fn header_of(count: u32, issue: u32) -> Vec<u8> {
+    let mut block = vec![0; 512];
+    block[..2].copy_from_slice(&[1, 2]);
+    block[8..12].copy_from_slice(&count.to_be_bytes());
+    block[13..15].copy_from_slice(&[8, 4]);
+    block[16..24].copy_from_slice(b"hss.isle");
+    block[80..84].copy_from_slice(b"isle");
+    block[408..412].copy_from_slice(&issue.to_be_bytes());
+    summed(block)
+}
+
+/// A record of it in state 0, of `p` and without a server name.
+pub fn block_of(number: u8, public: &str, set: u16, issue: u32) -> Vec<u8> {
+    let mut block = vec![0; 512];
+    block[..2].copy_from_slice(&[2, 2]);
+    block[7] = number;
+    block[13..15].copy_from_slice(&[public.len() as u8, 1]);
+    block[16..16 + public.len()].copy_from_slice(public.as_bytes());
+    block[144] = b'p';
+    block[406..408].copy_from_slice(&set.to_be_bytes());
+    block[408..412].copy_from_slice(&issue.to_be_bytes());
+    summed(block)
+}
+
+/// A result with its place.
+pub fn is(result: &str, place: u64) -> (String, u64) {
+    (result.to_string(), place)
+}
+
+pub fn flagged(mut avp: Vec<u8>, flags: u8) -> Vec<u8> {
+    avp[4] = flags;
+    avp
+}
+
 /// 612 with this scheme.
 pub fn item(scheme: &[u8]) -> Vec<u8> {
     avp(612, &avp(608, scheme))

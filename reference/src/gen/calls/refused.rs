@@ -1,12 +1,12 @@
 //! Calls that are refused, or only just not.
 
 use super::call::{right, right_over, Call};
-use crate::block::BLOCK;
 use crate::cases::Slice;
 use crate::gen::areas;
 use crate::gen::damage;
 use crate::gen::made::Made;
 use crate::gen::peers;
+use crate::gen::request::tell_length;
 use crate::gen::tables::FAR;
 use crate::gen::twists;
 use crate::gen::vectors;
@@ -43,9 +43,9 @@ pub fn several(rng: &mut Rng, dialect: Dialect) -> Made {
             2 => bytes.resize(FAR + true_length as usize, 0),
             _ => bytes.resize(MOST_REQUEST + *rng.pick(&[1, 4]), 0),
         }
-        if !why[2] && bytes.len() >= 4 {
-            let length = bytes.len() as u32;
-            bytes[1..4].copy_from_slice(&length.to_be_bytes()[1..]);
+        if !why[2] {
+            let length = bytes.len();
+            tell_length(&mut bytes, length);
         }
     }
     let mut made = match why[4] {
@@ -65,8 +65,8 @@ pub fn overlong(rng: &mut Rng, dialect: Dialect) -> Made {
     let mut bytes = call.request.encode();
     bytes.resize(bytes.len() + FAR * rng.between(1, 2), 0);
     if rng.coin() {
-        let length = bytes.len() as u32;
-        bytes[1..4].copy_from_slice(&length.to_be_bytes()[1..]);
+        let length = bytes.len();
+        tell_length(&mut bytes, length);
     }
     call.with_request(rng, bytes)
 }
@@ -77,8 +77,8 @@ pub fn short(rng: &mut Rng, dialect: Dialect) -> Made {
     let length = if rng.coin() { rng.between(16, 32) } else { rng.below(20) };
     let mut bytes = call.request.encode();
     bytes.truncate(length);
-    if rng.below(4) > 0 && length >= 4 {
-        bytes[1..4].copy_from_slice(&(length as u32).to_be_bytes()[1..]);
+    if rng.below(4) > 0 {
+        tell_length(&mut bytes, length);
     }
     call.with_request(rng, bytes)
 }
@@ -126,21 +126,15 @@ pub fn damaged_vectors(rng: &mut Rng) -> Made {
     made
 }
 
-/// Damages the vector file; one that is empty gets a piece of a block.
 fn damage_vectors(rng: &mut Rng, made: &mut Made) {
     let mut bytes = made.case.held(Slice::Vectors).into_owned();
-    if bytes.is_empty() {
-        bytes.resize(rng.between(1, BLOCK), 0);
-    } else {
-        vectors::damage::damage(rng, &mut bytes, &mut made.notes);
-    }
+    vectors::damage::of_any(rng, &mut bytes, &mut made.notes);
     made.case.put(Slice::Vectors, bytes);
 }
 
 fn damage_table(rng: &mut Rng, mut call: Call, request: Vec<u8>) -> Made {
-    let model = call.sound.model.clone();
     let profile = std::mem::take(&mut call.sound.profile);
-    let mut subject = damage::Subject { bytes: model.encode(), profile, model };
+    let mut subject = damage::Subject::of(call.sound.model.clone(), profile);
     let damaged = damage::damage(rng, &mut subject, &mut call.notes);
     if rng.once_in(4) {
         subject.bytes = areas::lengthened(rng, subject.bytes);
@@ -159,11 +153,7 @@ pub fn cut(rng: &mut Rng, dialect: Dialect) -> Made {
     let mut area = old.encode();
     let fresh = areas::successor(rng, &old, &call.sound.profile, &area).encode();
     let mut made = call.finish(rng);
-    area.resize(area.len().max(fresh.len()), 0);
-    made.damaged = match rng.coin() {
-        true => areas::cut(rng, &mut area, &fresh),
-        false => areas::scattered(rng, &mut area, &fresh),
-    };
+    (_, made.damaged) = areas::written_in_part(rng, &mut area, &fresh);
     made.case.put(Slice::Table, area);
     made
 }

@@ -18,7 +18,7 @@ pub fn damages() -> impl Iterator<Item = &'static Damage> {
     [header::DAMAGES, record::DAMAGES, editions::DAMAGES, sets::DAMAGES, whole::DAMAGES].into_iter().flatten()
 }
 
-/// Does one damage; `notes` learns which, and whether the check word was mended.
+/// Does one damage; `notes` learns which.
 pub fn damage(rng: &mut Rng, subject: &mut Subject, notes: &mut Vec<&'static str>) -> Option<usize> {
     if subject.bytes.len() < BLOCK {
         return None;
@@ -38,7 +38,6 @@ pub fn damage(rng: &mut Rng, subject: &mut Subject, notes: &mut Vec<&'static str
             notes.push(damage.name);
             if damage.mendable && rng.below(10) < 7 {
                 if let Some(bytes) = subject.bytes.get_mut(block * BLOCK..(block + 1) * BLOCK) {
-                    notes.push("mended");
                     mend(bytes);
                 }
             }

@@ -11,6 +11,12 @@ pub struct Subject {
     pub profile: Vec<u8>,
 }
 
+impl Subject {
+    pub fn of(model: TableModel, profile: Vec<u8>) -> Subject {
+        Subject { bytes: model.encode(), profile, model }
+    }
+}
+
 pub struct Damage {
     pub name: &'static str,
     doing: Doing,

@@ -47,7 +47,7 @@ pub fn case(rng: &mut Rng) -> Made {
         model.issue = None;
         model.records.iter_mut().for_each(|record| record.set = 0);
     }
-    let mut subject = damage::Subject { bytes: model.encode(), profile, model };
+    let mut subject = damage::Subject::of(model, profile);
     if rng.once_in(6) {
         notes.push(NOTES[4]);
         damage::damage(rng, &mut subject, &mut notes);

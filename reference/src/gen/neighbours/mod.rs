@@ -11,7 +11,7 @@ use super::calls;
 use super::features;
 use super::model::{RecordModel, TableModel};
 use super::peers;
-use super::request::{application_of, Piece, RequestModel};
+use super::request::{application_of, tell_length, Piece, RequestModel};
 use super::sets;
 use super::tables::{self, Sound};
 use super::twists;
@@ -208,7 +208,7 @@ fn add_stranger(rng: &mut Rng, dialect: Dialect, request: &mut Vec<u8>, table: &
     };
     if request.len() + piece.padded() <= MOST_REQUEST {
         piece.encode(request);
-        let length = request.len() as u32;
-        request[1..4].copy_from_slice(&length.to_be_bytes()[1..]);
+        let length = request.len();
+        tell_length(request, length);
     }
 }

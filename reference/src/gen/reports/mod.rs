@@ -53,7 +53,7 @@ pub fn case(rng: &mut Rng) -> Made {
         return longest(rng);
     }
     let mut notes = vec![];
-    let month = pieces::month(rng, &mut notes);
+    let month = pieces::month(rng, 40, &mut notes);
     finish(rng, month, notes)
 }
 

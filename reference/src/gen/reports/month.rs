@@ -1,6 +1,5 @@
 //! A month in the making: the files as they came, and as the requests so far left them.
 
-use crate::block::BLOCK;
 use crate::gen::areas;
 use crate::gen::damage;
 use crate::gen::model::{RecordModel, TableModel};
@@ -51,10 +50,7 @@ impl Files {
         }
         if rng.once_in(16) {
             notes.push("damaged vectors");
-            match self.vectors.is_empty() {
-                true => self.vectors.resize(rng.between(1, BLOCK), 0),
-                false => drop(vectors::damage::damage(rng, &mut self.vectors, &mut Vec::new())),
-            }
+            vectors::damage::of_any(rng, &mut self.vectors, &mut Vec::new());
         }
     }
 }

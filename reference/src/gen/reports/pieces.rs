@@ -3,6 +3,7 @@
 use super::month::Month;
 use crate::gen::asks;
 use crate::gen::features;
+use crate::gen::request::tell_length;
 use crate::gen::tables::FAR;
 use crate::gen::twists;
 use crate::kinds::{Command, Dialect};
@@ -11,8 +12,8 @@ use crate::refuse::MOST_REQUEST;
 use crate::rng::Rng;
 use crate::table::{LONGEST_SERVER_NAME, NOT_REGISTERED};
 
-/// A month of few requests, half of them with a broken one at the end or near it.
-pub fn month(rng: &mut Rng, notes: &mut Vec<&'static str>) -> Month {
+/// A month of few requests, up to the most, half of them with a broken one at the end or near it.
+pub fn month(rng: &mut Rng, most: usize, notes: &mut Vec<&'static str>) -> Month {
     let records = if rng.once_in(30) { 0 } else { rng.between(1, 8) };
     let mut month = Month::new(rng, records);
     let many = match rng.below(20) {
@@ -20,7 +21,7 @@ pub fn month(rng: &mut Rng, notes: &mut Vec<&'static str>) -> Month {
         1..=3 => 1,
         4..=14 => rng.between(2, 8),
         15..=18 => rng.between(9, 16),
-        _ => rng.between(17, 40),
+        _ => rng.between(17, most),
     };
     for _ in 0..many {
         let (piece, note) = piece(rng, &month);
@@ -47,8 +48,9 @@ pub fn headers(rng: &mut Rng, count: usize) -> Vec<u8> {
     (0..count + rng.below(50)).flat_map(|_| rng.pick(&some).clone()).collect()
 }
 
-/// A registration of a record that has none, and its removal, which leaves the bytes that there were; nothing if there is no such record.
-pub fn undone(rng: &mut Rng, month: &Month) -> Vec<Vec<u8>> {
+/// So many registrations of one record that has none and their removals, in turn, of which each removal leaves the bytes that there were;
+/// nothing if there is no such record.
+pub fn of_one_record(rng: &mut Rng, month: &Month, count: usize) -> Vec<Vec<u8>> {
     let records = month.table().records;
     let fresh: Vec<_> = records.iter().filter(|it| it.state == NOT_REGISTERED && !it.is_pending()).collect();
     if fresh.is_empty() {
@@ -56,12 +58,17 @@ pub fn undone(rng: &mut Rng, month: &Month) -> Vec<Vec<u8>> {
     }
     let public = rng.pick(&fresh).public.clone();
     let name = vec![b's'; rng.between(1, LONGEST_SERVER_NAME)];
-    [*rng.pick(&[1, 3]), *rng.pick(&[4, 5, 8, 11])]
-        .map(|asked_type| {
-            let mut own = asks::assignment(rng, asked_type, vec![public.clone()], None, name.clone());
-            asks::surround(rng, Command::ServerAssignment, &mut own).encode()
-        })
-        .to_vec()
+    let assignment = |n: usize| {
+        let asked_type = if n % 2 == 0 { *rng.pick(&[1, 3]) } else { *rng.pick(&[4, 5, 8, 11]) };
+        let mut own = asks::assignment(rng, asked_type, vec![public.clone()], None, name.clone());
+        asks::surround(rng, Command::ServerAssignment, &mut own).encode()
+    };
+    (0..count).map(assignment).collect()
+}
+
+/// A MAR, most likely with a vector for it.
+pub fn challenge(rng: &mut Rng, month: &Month) -> Vec<u8> {
+    asks::authentication(rng, &month.table()).encode()
 }
 
 /// A request that is cut out rightly, whatever comes of it.
@@ -75,6 +82,16 @@ pub fn piece(rng: &mut Rng, month: &Month) -> (Vec<u8>, &'static str) {
         10..=16 => (twisted(rng, month), "a twist"),
         17..=19 => (with_features(rng, month), "628s for the set"),
         _ => (right(rng, month), "right"),
+    }
+}
+
+/// One that no file refuses but its own bytes do, or a right one.
+pub fn refused_or_right(rng: &mut Rng, month: &Month) -> Vec<u8> {
+    match rng.below(6) {
+        0 => odd(rng, month),
+        1 => unasked(rng, month),
+        2 => long(rng, month),
+        _ => right(rng, month),
     }
 }
 
@@ -173,8 +190,8 @@ pub fn longest(rng: &mut Rng) -> Vec<u8> {
 
 /// Gives a request a length so much over its own.
 fn told(bytes: &mut [u8], over: usize) {
-    let length = ((bytes.len() + over) as u32).to_be_bytes();
-    bytes[1..4].copy_from_slice(&length[1..]);
+    let length = bytes.len() + over;
+    tell_length(bytes, length);
 }
 
 /// What ends a report before the file's end, and its name.
@@ -194,7 +211,7 @@ pub fn broken(rng: &mut Rng, month: &Month) -> (Vec<u8>, &'static str) {
         }
         2 | 3 => {
             let length = *rng.pick(&[0, 1, 4, 16, 19, 19]);
-            bytes[1..4].copy_from_slice(&[0, 0, length]);
+            tell_length(&mut bytes, length);
             (bytes, "a length under 20")
         }
         4 => {

@@ -10,34 +10,50 @@ use crate::rng::Rng;
 use crate::row::WORD;
 
 /// What a case may be noted as, beside what stands in its file.
-pub const NOTES: [&str; 6] = [
-    "undone again",
-    "some hundred headers",
-    "room for all",
-    "less room for answers",
-    "less room for words",
-    "an unknown peer",
-];
+pub const NOTES: [&str; 9] =
+    [HEADERS, ONE_RECORD, CHALLENGES, REFUSALS, CUT, ROOM, LESS_FOR_ANSWERS, LESS_FOR_WORDS, UNKNOWN_PEER];
+const HEADERS: &str = "some hundred headers";
+const ONE_RECORD: &str = "one record altered again and again";
+const CHALLENGES: &str = "MARs one behind the other";
+const REFUSALS: &str = "refused requests among others";
+const CUT: &str = "cut anywhere";
+const ROOM: &str = "room for all";
+const LESS_FOR_ANSWERS: &str = "less room for answers";
+const LESS_FOR_WORDS: &str = "less room for words";
+const UNKNOWN_PEER: &str = "an unknown peer";
+
+/// Of the requests in a row, but for headers alone.
+const MOST: usize = 64;
 
 pub fn case(rng: &mut Rng) -> Made {
     let mut notes = vec![];
     let mut month = match rng.below(150) {
         0 => {
-            notes.push(NOTES[1]);
-            let mut month = Month::new(rng, 1);
-            month.requests = pieces::headers(rng, 256);
-            month.came.vectors.clear();
-            month
+            notes.push(HEADERS);
+            headers(rng)
         }
-        1..=10 => {
-            notes.push(NOTES[0]);
-            undone(rng)
+        1..=12 => {
+            notes.push(ONE_RECORD);
+            one_record(rng)
         }
-        _ => pieces::month(rng, &mut notes),
+        13..=20 => {
+            notes.push(CHALLENGES);
+            several(rng, pieces::challenge)
+        }
+        21..=28 => {
+            notes.push(REFUSALS);
+            several(rng, pieces::refused_or_right)
+        }
+        _ => pieces::month(rng, MOST, &mut notes),
     };
     let (answers, words) = areas(rng, &month, &mut notes);
     if rng.once_in(16) {
-        notes.push(NOTES[5]);
+        notes.push(CUT);
+        let length = rng.below(month.requests.len() + 1);
+        month.requests.truncate(length);
+    }
+    if rng.once_in(16) {
+        notes.push(UNKNOWN_PEER);
         month.stated.peer = peers::unknown(rng).peer;
     }
     month.came.spoil(rng, &mut notes);
@@ -46,15 +62,35 @@ pub fn case(rng: &mut Rng) -> Made {
     Made { case, notes, damaged: None }
 }
 
+/// Over a table of one record, and no vectors.
+fn headers(rng: &mut Rng) -> Month {
+    let mut month = Month::new(rng, 1);
+    month.requests = pieces::headers(rng, 256);
+    month.came.vectors.clear();
+    month
+}
+
 /// What one request alters the next one restores, with another before, between or behind them now and then.
-fn undone(rng: &mut Rng) -> Month {
+fn one_record(rng: &mut Rng) -> Month {
     let records = rng.between(1, 4);
     let mut month = Month::new(rng, records);
-    for piece in pieces::undone(rng, &month) {
+    let count = if rng.coin() { 2 } else { rng.between(3, 9) };
+    for piece in pieces::of_one_record(rng, &month, count) {
         if rng.once_in(6) {
             let other = pieces::right(rng, &month);
             month.add(other);
         }
+        month.add(piece);
+    }
+    month
+}
+
+/// Few requests of one kind, each for the table as the ones before left it.
+fn several(rng: &mut Rng, make: fn(&mut Rng, &Month) -> Vec<u8>) -> Month {
+    let records = rng.between(1, 4);
+    let mut month = Month::new(rng, records);
+    for _ in 0..rng.between(2, 9) {
+        let piece = make(rng, &month);
         month.add(piece);
     }
     month
@@ -75,7 +111,7 @@ fn areas(rng: &mut Rng, month: &Month, notes: &mut Vec<&'static str>) -> (usize,
     let mut words = WORD * requests + rng.below(2) * rng.below(20);
     match rng.below(6) {
         0 | 1 => {
-            notes.push(NOTES[3]);
+            notes.push(LESS_FOR_ANSWERS);
             answers = match rng.below(8) {
                 0 => *rng.pick(&[0, 20, LEAST_BUFFER / 2, LEAST_BUFFER - 1]),
                 1..=5 => up_to(at) - rng.between(1, 2),
@@ -83,7 +119,7 @@ fn areas(rng: &mut Rng, month: &Month, notes: &mut Vec<&'static str>) -> (usize,
             };
         }
         2 => {
-            notes.push(NOTES[4]);
+            notes.push(LESS_FOR_WORDS);
             words = match rng.below(4) {
                 0 => rng.below(WORD),
                 1 => (WORD * requests).saturating_sub(1),
@@ -91,11 +127,11 @@ fn areas(rng: &mut Rng, month: &Month, notes: &mut Vec<&'static str>) -> (usize,
             };
         }
         3 => {
-            notes.extend([NOTES[3], NOTES[4]]);
+            notes.extend([LESS_FOR_ANSWERS, LESS_FOR_WORDS]);
             answers = up_to(at) - rng.below(2);
             words = WORD * at + rng.below(WORD);
         }
-        _ => notes.push(NOTES[2]),
+        _ => notes.push(ROOM),
     }
     (answers, words)
 }

@@ -1,7 +1,7 @@
 //! Twists of features: 628s that are at fault, that stand first, or that only seem to be 628s.
 
 use super::shape::{always, Twist};
-use crate::gen::features::{any, members, piece, put};
+use crate::gen::features::{any, members, piece};
 use crate::gen::request::{put_together, Piece};
 use crate::kinds::{Kind, AUTH_APPLICATION_ID, VENDOR, VENDOR_ID};
 use crate::message::{M, V};
@@ -10,8 +10,8 @@ use crate::rng::Rng;
 pub const TWISTS: &[Twist] = &[
     always("628s of any kind", 4, |rng, r| {
         for _ in 0..rng.between(1, 3) {
-            let (asked, marked) = (any(rng), rng.coin());
-            put(rng, r, asked, marked);
+            let piece = some(rng);
+            r.insert(rng, piece);
         }
     }),
     always("628: its members", 6, |rng, r| {
@@ -27,19 +27,16 @@ pub const TWISTS: &[Twist] = &[
         r.insert(rng, piece);
     }),
     always("628 with reserved flags", 3, |rng, r| {
-        let (asked, marked) = (any(rng), rng.coin());
-        let mut piece = piece(rng, asked, marked);
+        let mut piece = some(rng);
         piece.flags |= 1 << rng.below(5);
         r.insert(rng, piece);
     }),
     always("628 first", 3, |rng, r| {
-        let (asked, marked) = (any(rng), rng.coin());
-        let piece = piece(rng, asked, marked);
+        let piece = some(rng);
         r.pieces.insert(0, piece);
     }),
     always("628 of another vendor, or without V", 3, |rng, r| {
-        let (asked, marked) = (any(rng), rng.coin());
-        let mut piece = piece(rng, asked, marked);
+        let mut piece = some(rng);
         match rng.coin() {
             true => piece.flags &= !V,
             false => piece.vendor = *rng.pick(&[0, 50, VENDOR + 1]),
@@ -47,6 +44,12 @@ pub const TWISTS: &[Twist] = &[
         r.insert(rng, piece);
     }),
 ];
+
+/// A 628 that asks for anything, with M or without.
+fn some(rng: &mut Rng) -> Piece {
+    let (asked, marked) = (any(rng), rng.coin());
+    piece(rng, asked, marked)
+}
 
 /// A 628 that is at fault, or only seems so.
 pub fn broken(rng: &mut Rng) -> Piece {

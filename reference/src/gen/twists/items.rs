@@ -1,6 +1,6 @@
 //! Twists of a MAR: which of its own AVPs there are, 612 and its member, the scheme, the number asked.
 
-use super::shape::{if_it_fits, some_avp, Twist};
+use super::shape::{if_it_fits, resized, some_avp, twice, Twist};
 use super::single::{other_bytes, other_member, other_members};
 use crate::gen::asks::{item, number_asked, other_scheme, scheme};
 use crate::gen::request::RequestModel;
@@ -32,12 +32,7 @@ pub const TWISTS: &[Twist] = &[
     }),
     if_it_fits("MAR: an own AVP twice", 5, |rng, r| {
         let at = own(rng, r)?;
-        let mut again = r.pieces[at].clone();
-        if rng.coin() {
-            let length = rng.below(9);
-            again.data = rng.bytes(length);
-        }
-        r.insert(rng, again);
+        twice(rng, r, at);
         Some(())
     }),
     if_it_fits("612: its members", 8, |rng, r| {
@@ -64,12 +59,7 @@ pub const TWISTS: &[Twist] = &[
         r.pieces[at].data = item(rng, scheme);
         Some(())
     }),
-    if_it_fits("607: another length", 2, |rng, r| {
-        let at = r.place(Kind::SipNumberAuthItems)?;
-        let length = *rng.pick(&[0, 1, 2, 3, 5, 8]);
-        r.pieces[at].data.resize(length, 0);
-        Some(())
-    }),
+    if_it_fits("607: another length", 2, |rng, r| resized(rng, r, Kind::SipNumberAuthItems)),
     if_it_fits("607: another number", 4, |rng, r| {
         let at = r.place(Kind::SipNumberAuthItems)?;
         r.pieces[at].data = number_asked(rng).to_be_bytes().to_vec();

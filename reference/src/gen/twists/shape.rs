@@ -1,6 +1,7 @@
 //! What a twist is.
 
 use crate::gen::request::{Piece, RequestModel};
+use crate::kinds::Kind;
 use crate::rng::Rng;
 
 pub struct Twist {
@@ -45,6 +46,24 @@ impl Twist {
         }
         Some(())
     }
+}
+
+/// Puts an AVP in again, half of the time with other data: it comes too often before that counts.
+pub fn twice(rng: &mut Rng, request: &mut RequestModel, at: usize) {
+    let mut again = request.pieces[at].clone();
+    if rng.coin() {
+        let length = rng.below(9);
+        again.data = rng.bytes(length);
+    }
+    request.insert(rng, again);
+}
+
+/// Gives a 4-byte kind another length.
+pub fn resized(rng: &mut Rng, request: &mut RequestModel, kind: Kind) -> Option<()> {
+    let at = request.place(kind)?;
+    let length = *rng.pick(&[0, 1, 2, 3, 5, 8]);
+    request.pieces[at].data.resize(length, 0);
+    Some(())
 }
 
 /// The place of one of the AVPs that are wanted.

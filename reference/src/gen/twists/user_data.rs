@@ -1,6 +1,6 @@
 //! Twists of a User-Data-Request: which of its own AVPs there are, 700 and its member, the references.
 
-use super::shape::{always, if_it_fits, some_avp, Twist};
+use super::shape::{always, if_it_fits, resized, some_avp, twice, Twist};
 use super::single::{other_bytes, other_member, other_members};
 use crate::gen::asks::{data_reference, identity_group, ABSENT};
 use crate::gen::names;
@@ -24,12 +24,7 @@ pub const TWISTS: &[Twist] = &[
     }),
     if_it_fits("UDR: an own AVP twice", 6, |rng, r| {
         let at = own(rng, r)?;
-        let mut again = r.pieces[at].clone();
-        if rng.coin() {
-            let length = rng.below(9);
-            again.data = rng.bytes(length);
-        }
-        r.insert(rng, again);
+        twice(rng, r, at);
         Some(())
     }),
     always("UDR: a neighbouring command", 3, |rng, r| {
@@ -89,12 +84,7 @@ pub const TWISTS: &[Twist] = &[
             r.insert(rng, piece);
         }
     }),
-    if_it_fits("703: another length", 4, |rng, r| {
-        let at = r.place(Kind::DataReference)?;
-        let length = *rng.pick(&[0, 1, 2, 3, 5, 8]);
-        r.pieces[at].data.resize(length, 0);
-        Some(())
-    }),
+    if_it_fits("703: another length", 4, |rng, r| resized(rng, r, Kind::DataReference)),
 ];
 
 /// The place of one of the AVPs that it has of its own.

@@ -136,7 +136,15 @@ fn brought_to(bytes: &mut Vec<u8>, blocks: usize) {
     bytes.truncate(blocks * BLOCK);
 }
 
-/// Does one damage to a file of one block or more; `notes` learns which, and whether the check word was mended.
+/// Does one damage to any file; an empty one gets a piece of a block.
+pub fn of_any(rng: &mut Rng, bytes: &mut Vec<u8>, notes: &mut Vec<&'static str>) {
+    match bytes.is_empty() {
+        true => bytes.resize(rng.between(1, BLOCK), 0),
+        false => drop(damage(rng, bytes, notes)),
+    }
+}
+
+/// Does one damage to a file of one block or more; `notes` learns which.
 pub fn damage(rng: &mut Rng, bytes: &mut Vec<u8>, notes: &mut Vec<&'static str>) -> Option<usize> {
     if bytes.len() < BLOCK {
         return None;
@@ -157,7 +165,6 @@ pub fn damage(rng: &mut Rng, bytes: &mut Vec<u8>, notes: &mut Vec<&'static str>)
         if let Some(number) = done {
             notes.push(damage.name);
             if damage.mendable && rng.below(10) < 8 {
-                notes.push("mended");
                 mend(&mut bytes[number * BLOCK..][..BLOCK]);
             }
             return Some(number);

@@ -10,12 +10,8 @@ pub const SPOILS: &[Spoil] = &[
         *cell = cell[1..cell.len() - 1].to_vec();
         Some(())
     }),
-    of_cells("name: a quote that is not doubled", |rng, cells| put_in(rng, cells, &b"\""[..])),
-    of_cells("name: a doubled quote more", |rng, cells| {
-        let at = some_short(rng, cells)?;
-        put_in_cell(rng, &mut cells[at], b"\"\"");
-        Some(())
-    }),
+    of_cells("name: a quote that is not doubled", |rng, cells| put_in(rng, cells, b"\"")),
+    of_cells("name: a doubled quote more", |rng, cells| put_in(rng, cells, b"\"\"")),
     of_cells("name: a control", |rng, cells| {
         let byte = *rng.pick(&[0, 1, 9, 27, 31, 31]);
         replace_in(rng, cells, byte)
@@ -165,22 +161,13 @@ fn told(cell: &[u8]) -> Option<u64> {
     std::str::from_utf8(cell).ok()?.parse().ok()
 }
 
-/// A name that has room for a byte more, and is not empty.
-fn some_short(rng: &mut Rng, cells: &[Vec<u8>]) -> Option<usize> {
-    let at = rng.below(NAMES.len());
-    (3..=NAMES[at]).contains(&cells[at].len()).then_some(at)
-}
-
-/// Puts bytes into a name, between its outer quotes.
+/// Puts bytes into a name that has room for a byte more and is not empty, between its outer quotes.
 fn put_in(rng: &mut Rng, cells: &mut [Vec<u8>], bytes: &[u8]) -> Option<()> {
-    let at = some_short(rng, cells)?;
-    put_in_cell(rng, &mut cells[at], bytes);
-    Some(())
-}
-
-fn put_in_cell(rng: &mut Rng, cell: &mut Vec<u8>, bytes: &[u8]) {
+    let which = rng.below(NAMES.len());
+    let cell = Some(&mut cells[which]).filter(|cell| (3..=NAMES[which]).contains(&cell.len()))?;
     let at = rng.between(1, cell.len() - 1);
     cell.splice(at..at, bytes.iter().copied());
+    Some(())
 }
 
 /// A byte of a name becomes another, but for a quote.
