@@ -1,3 +1,4 @@
+#![tactic(auto)]
 // Numbers, names and runs of bytes in a slice. Nothing here knows the protocol.
 pub mod name;
 pub mod number;
