@@ -15,7 +15,7 @@ use reply::front;
 use requests::features::Wanted;
 
 // What a decision stands on: the dialect of the request, what its Supported-Features want, and how many records the table has.
-#[derive(Drop)]
+#[derive(Clone, Copy)]
 pub struct Ground {
     pub dialect: Dialect,
     pub wanted: Wanted,

@@ -6,7 +6,7 @@ use libc::{STDERR_FILENO, STDOUT_FILENO};
 use octets::name;
 
 // What an argument asks for.
-#[derive(Drop)]
+#[derive(Clone, Copy)]
 pub enum Asked {
     Help,
     Version,

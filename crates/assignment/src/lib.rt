@@ -8,7 +8,7 @@ use reading::Verdict;
 
 // Whom a SAR means: nobody, because of a fault; the User-Name's records that are not in state 0; or the records of the named identities, the first of
 // which stands at this place.
-#[derive(Drop)]
+#[derive(Clone, Copy)]
 pub enum Meant {
     Fault(Verdict),
     Owned,

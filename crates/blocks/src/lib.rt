@@ -1,3 +1,4 @@
+#![tactic(auto)]
 // A file of blocks of 512 bytes: a block lent, a block given a new check word.
 ghost use Rattle.std.specs.Prelude.{◌≡◌, ◌+◌, ◌*◌, ◌≤◌, length};
 ghost use Rattle.blocks.specs.Blocks.{block_of};
@@ -9,7 +10,7 @@ use octets::{number, sum};
 pub const BLOCK: usize = 512;
 
 // How many blocks are sound, or the number of the first bad one.
-#[derive(Drop)]
+#[derive(Clone, Copy)]
 pub enum Checked {
     Sound(u32),
     Bad(u32),

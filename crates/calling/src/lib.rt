@@ -18,14 +18,14 @@ use reading::Terms;
 pub const UNSOUND_VECTORS: u16 = 6;
 
 // What a call comes to: an answer, with what is told of it, or a refusal's number with what it returns besides.
-#[derive(Drop)]
+#[derive(Clone, Copy)]
 pub enum Came {
     Answered(Told),
     Refused { number: u16, besides: u32 },
 }
 
 // What calls over the same files share: what the checks of the table and of the vector file say, which a call keeps, and the terms.
-#[derive(Drop)]
+#[derive(Clone, Copy)]
 pub struct Shared {
     pub table: Checked,
     pub vectors: Checked,

@@ -9,7 +9,7 @@ use vectors::choice::Sent;
 
 // What a MAR asks: whether both identities are known, whether they are together in one record, whether its scheme is the one that is served, and whether
 // there is a vector to send.
-#[derive(Drop)]
+#[derive(Clone, Copy)]
 pub struct Claimed {
     pub known: bool,
     pub together: bool,

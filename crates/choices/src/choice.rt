@@ -6,7 +6,7 @@ use reading::{Outcome, base, experimental};
 
 // What a UAR asks: whether both identities are known, and of the record with the public one whether it has the private one too, whether it is
 // barred, whether it may roam in the visited network, and whether it is in state 1 or 2.
-#[derive(Drop)]
+#[derive(Clone, Copy)]
 pub struct Asked {
     pub known: bool,
     pub together: bool,
@@ -16,14 +16,14 @@ pub struct Asked {
 }
 
 // What a LIR asks: whether the identity is known, and of its record whether it is in state 1 or 2 and whether it has unregistered services.
-#[derive(Drop)]
+#[derive(Clone, Copy)]
 pub struct Sought {
     pub known: bool,
     pub present: bool,
     pub services: bool,
 }
 
-#[derive(Drop)]
+#[derive(Clone, Copy)]
 pub enum Choice {
     // A result alone.
     Alone(Outcome),

@@ -7,7 +7,7 @@ use crate::{Given, giving, types};
 use reading::{Outcome, base, experimental};
 
 // The numbers of a SAR: its type, 624, whether a User-Name is given; and the header's keep.
-#[derive(Drop)]
+#[derive(Clone, Copy)]
 pub struct Sar {
     pub kind: AssignmentType,
     pub already: u32,
@@ -17,7 +17,7 @@ pub struct Sar {
 
 // What was seen of the records that a SAR means: all known, at least one, all of one subscription, the request's name stored by each, no other name
 // stored by any, all in a right state.
-#[derive(Drop)]
+#[derive(Clone, Copy)]
 pub struct Survey {
     pub known: bool,
     pub some: bool,
@@ -28,7 +28,7 @@ pub struct Survey {
 }
 
 // What the questions of a SAR or a MAR come to.
-#[derive(Drop)]
+#[derive(Clone, Copy)]
 pub enum Finding {
     Denied(Outcome),
     Fine,
@@ -36,7 +36,7 @@ pub enum Finding {
 
 // A row of the table of effects on the User-Name's records that are not in state 0 or on those of the named identities: the state that each gets, and
 // whether it has the request's server name then.
-#[derive(Drop)]
+#[derive(Clone, Copy)]
 pub struct Settling {
     pub owned: bool,
     pub state: u8,
@@ -44,7 +44,7 @@ pub struct Settling {
 }
 
 // What is to be written: nothing; a row of the table of effects; the request's server name into the record of a block, with the vectors sent marked.
-#[derive(Drop)]
+#[derive(Clone, Copy)]
 pub enum Deed {
     Leave,
     Settle(Settling),
@@ -52,7 +52,7 @@ pub enum Deed {
 }
 
 // A decision that is still to be carried out: what the answer carries, and what is to be written.
-#[derive(Drop)]
+#[derive(Clone, Copy)]
 pub struct Plan {
     pub given: Given,
     pub deed: Deed,

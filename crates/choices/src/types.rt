@@ -5,7 +5,7 @@ ghost use Rattle.choices.specs.Types.{type_of, is_removal, asks_only, carries_us
 use reading::{Outcome, base, experimental};
 
 // The types as far as they differ: 0, 1, 2, 3, the removals that keep no name and those that may (6 and 7), the failures.
-#[derive(Drop)]
+#[derive(Clone, Copy)]
 pub enum AssignmentType {
     NoAssignment,
     Registration,
@@ -18,7 +18,7 @@ pub enum AssignmentType {
 
 // A row of the table of effects: whether a record is written at all, the state that it gets, whether it has the request's server name then,
 // and the result.
-#[derive(Drop)]
+#[derive(Clone, Copy)]
 pub struct Effect {
     pub write: bool,
     pub state: u8,

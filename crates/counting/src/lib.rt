@@ -34,7 +34,7 @@ const CELLS_AT: usize = 20;
 const COLUMNS: usize = 25;
 
 // A request that was answered: its command and result, the answer's length, and how many records it altered.
-#[derive(Drop)]
+#[derive(Clone, Copy)]
 pub struct Entry {
     pub command: usize,
     pub result: Outcome,
@@ -43,7 +43,7 @@ pub struct Entry {
 }
 
 // What a request comes to that was read: an answer, or a refusal by its number.
-#[derive(Drop)]
+#[derive(Clone, Copy)]
 pub enum Event {
     Answered(Entry),
     Refused(u16),

@@ -20,7 +20,7 @@ use requests::{Walked, features};
 
 // What is said of an answer: its length, and the place of the AVP at fault, 0 where none is; the request's command, the answer's result, and how many
 // records have other bytes then.
-#[derive(Drop)]
+#[derive(Clone, Copy)]
 pub struct Told {
     pub length: u32,
     pub place: u16,
@@ -126,7 +126,7 @@ fn answer_fine(
 }
 
 // What a call over sound files goes by: the dialect of its request, and how many records the table has.
-#[derive(Drop)]
+#[derive(Clone, Copy)]
 pub struct Asked {
     pub dialect: Dialect,
     pub count: usize,

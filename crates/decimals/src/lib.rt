@@ -1,3 +1,4 @@
+#![tactic(auto)]
 // Numbers in decimal, written and read, without sign and without leading zero.
 ghost use Rattle.std.specs.Prelude.{◌≡◌, ◌+◌, ◌-◌, ◌*◌, ◌%◌, ◌<◌, ◌≤◌, length, get_or};
 ghost use Rattle.octets.specs.Run.{Wrote};
@@ -12,7 +13,7 @@ const NINE: usize = 57;
 const MOST: usize = 10;
 
 // A number that was read, and how many digits it has: none where there is no number.
-#[derive(Drop)]
+#[derive(Clone, Copy)]
 pub struct Number {
     pub size: usize,
     pub value: usize,

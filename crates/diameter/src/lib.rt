@@ -1,3 +1,4 @@
+#![tactic(auto)]
 // RFC 3588: AVPs read, at any place of any bytes; where a message's header has its fields.
 pub mod codes;
 pub mod message;
@@ -15,7 +16,7 @@ pub const M_FLAG: u8 = 64;
 pub const P_FLAG: u8 = 32;
 
 // A whole AVP: the place where it begins, its length, the place of the next one, its header's length and its flags.
-#[derive(Drop)]
+#[derive(Clone, Copy)]
 pub struct Avp {
     pub at: usize,
     pub len: usize,
@@ -25,14 +26,14 @@ pub struct Avp {
 }
 
 // The bytes of a message from a place on, up to an end.
-#[derive(Drop)]
+#[derive(Clone, Copy)]
 pub struct Span {
     pub from: usize,
     pub end: usize,
 }
 
 // What stands at a place of a message: a whole AVP; or none, because its length is faulty or because the bytes are at an end, with that place.
-#[derive(Drop)]
+#[derive(Clone, Copy)]
 pub enum Read {
     Avp(Avp),
     Fault(usize),

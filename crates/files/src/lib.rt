@@ -5,7 +5,7 @@ ghost use Rattle.files.specs.Got.{gotten};
 use libc::{STDERR_FILENO, STDIN_FILENO};
 
 // How many bytes were read, or none because the file could not be.
-#[derive(Drop)]
+#[derive(Clone, Copy)]
 pub enum Got {
     Bytes(usize),
     Nothing,

@@ -39,7 +39,7 @@ fn stops(
 }
 
 // The slot at which a search ended, and the hash that was looked for.
-#[derive(Drop)]
+#[derive(Clone, Copy)]
 pub struct Found {
     pub at: usize,
     pub hash: usize,

@@ -41,7 +41,7 @@ fn fits(a: &[u8], b: &[u8], h: Header, file: usize, k: usize) -> bool
 }
 
 // What the turn of one line finds: how long it is, whether its record fits, and its set's number.
-#[derive(Drop)]
+#[derive(Clone, Copy)]
 pub struct Turn {
     pub size: usize,
     pub fits: bool,
@@ -72,7 +72,7 @@ fn judge(
 }
 
 // How many records from the first on stand in their places, whether none of them has a set, and where the last one's line ends.
-#[derive(Drop)]
+#[derive(Clone, Copy)]
 pub struct Stood {
     pub records: usize,
     pub setless: bool,

@@ -21,7 +21,7 @@ pub const UNLISTED: u16 = 13;
 pub const TOO_SHORT: u16 = 15;
 
 // How many bytes were written, or a refusal's number with what it returns besides: a block, or a line.
-#[derive(Drop)]
+#[derive(Clone, Copy)]
 pub enum Listed {
     Written(u32),
     Refused { number: u16, value: u32 },

@@ -13,7 +13,7 @@ use record::subscriber::Record;
 use record::{fields, networks, sets};
 
 // The number of a record's block, or none.
-#[derive(Drop)]
+#[derive(Clone, Copy)]
 pub enum Found {
     At(u32),
     Nothing,

@@ -1,3 +1,4 @@
+#![tactic(auto)]
 // Text written into a buffer, and names in it with the five markup characters of XML escaped. Nothing here knows the protocol.
 ghost use Rattle.std.specs.Prelude.{◌≡◌, ◌≤◌, length, [], ◌∷◌};
 ghost use Rattle.octets.specs.Run.{Wrote};

@@ -16,7 +16,7 @@ pub const UNSOUND: u16 = 5;
 pub const SETS: u16 = 8;
 
 // How many records were moved, or a refusal's number with the block that it blames.
-#[derive(Drop)]
+#[derive(Clone, Copy)]
 pub enum Move {
     Moved(u32),
     Refused { number: u16, block: u32 },

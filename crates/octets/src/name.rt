@@ -5,7 +5,7 @@ ghost use Rattle.octets.specs.Name.{order_of, same, alike_at, alike_from, by_num
 
 use crate::number;
 
-#[derive(Drop)]
+#[derive(Clone, Copy)]
 pub enum Order {
     Less,
     Equal,

@@ -6,7 +6,7 @@ ghost use Rattle.octets.specs.Sum.{sum_words};
 use crate::number;
 
 // Words added up as the machine has them, and their second and fourth bytes once more by themselves, each with 16 bits for its sum.
-#[derive(Drop)]
+#[derive(Clone, Copy)]
 pub struct Sums {
     pub whole: u32,
     pub odd: u32,

@@ -4,7 +4,7 @@ pub mod line;
 
 // Where the names of a line stand and how long they are: `second`, `third` and `numbers` are the places behind the first, the second and the third name.
 // All are 0 where there is no line.
-#[derive(Drop)]
+#[derive(Clone, Copy)]
 pub struct Names {
     pub public: usize,
     pub private: usize,

@@ -21,7 +21,7 @@ use reading::{Outcome, Terms, Verdict};
 use reply::given;
 
 // What an answer carries: what the decision stands on, and what it gives.
-#[derive(Drop)]
+#[derive(Clone, Copy)]
 pub struct Carried {
     pub ground: Ground,
     pub given: Given,

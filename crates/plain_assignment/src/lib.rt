@@ -27,7 +27,7 @@ use requests::identities::Next;
 
 // What is asked of each record: that it is known; that there is none; that it is of a subscription; that it stores a server name; that it stores no other; that
 // its state is right.
-#[derive(Drop)]
+#[derive(Clone, Copy)]
 enum Rule {
     Known,
     Absent,

@@ -22,14 +22,14 @@ use reading::{Dialect, Terms, kinds};
 use requests::Walked;
 
 // What a call comes to: an answer, or a refusal's number with what it returns besides.
-#[derive(Drop)]
+#[derive(Clone, Copy)]
 pub enum Came {
     Answered(Said),
     Refused { number: u16, besides: u32 },
 }
 
 // What the check of the table says, how many AVPs are listed, and the terms.
-#[derive(Drop)]
+#[derive(Clone, Copy)]
 struct Known {
     table: Checked,
     listed: usize,

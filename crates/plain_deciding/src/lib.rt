@@ -35,7 +35,7 @@ use vectors::choice::Sent;
 use vectors::mark;
 
 // "Otherwise the call returns the answer's length"; 02 [2]: "the place of the AVP at fault, or 0".
-#[derive(Drop)]
+#[derive(Clone, Copy)]
 pub struct Said {
     pub length: u32,
     pub place: u16,
@@ -191,13 +191,13 @@ fn spend(v: &mut [u8], sent: Sent, d: Deed)
 }
 
 // What an answer stands on, with the fault that a request came to, or with the places of its AVPs.
-#[derive(Drop)]
+#[derive(Clone, Copy)]
 pub struct Blamed {
     pub ground: Ground,
     pub fault: Verdict,
 }
 
-#[derive(Drop)]
+#[derive(Clone, Copy)]
 pub struct Held {
     pub ground: Ground,
     pub found: [usize; kinds::KINDS],
@@ -250,7 +250,7 @@ pub fn answer_fault(
 }
 
 // What is planned, and how long the answer is.
-#[derive(Drop)]
+#[derive(Clone, Copy)]
 struct Written {
     plan: Plan,
     length: usize,

@@ -16,7 +16,7 @@ use record::header::Header;
 use record::subscriber::Record;
 
 // What is looked for by a name: a public identity, a private identity, a private identity's record that stores a server name.
-#[derive(Drop)]
+#[derive(Clone, Copy)]
 enum Look {
     Public,
     Private,

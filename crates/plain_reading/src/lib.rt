@@ -20,7 +20,7 @@ use requests::{Walked, walk};
 pub const MOST: usize = 2046;
 
 // The rules that can be broken, by document 01's letters ((e) only skips); then that of RFC 6733, which a 260 can break.
-#[derive(Drop)]
+#[derive(Clone, Copy)]
 pub enum Letter {
     A,
     B,
@@ -33,7 +33,7 @@ pub enum Letter {
 }
 
 // The number in the list, from 0 on, of the first AVP that breaks a rule: the list's length where none does.
-#[derive(Drop)]
+#[derive(Clone, Copy)]
 pub struct Broken {
     pub at: usize,
     pub letter: Letter,

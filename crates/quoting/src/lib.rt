@@ -1,3 +1,4 @@
+#![tactic(auto)]
 // Names of a list: quoted, the quote doubled; written and read.
 ghost use Rattle.std.specs.Prelude.{◌≡◌, false, [], ◌∷◌, ◌++◌, ◌+◌, ◌*◌, ◌<◌, ◌≤◌, length, get_or, drop};
 ghost use Rattle.octets.specs.Run.{Wrote};
@@ -12,7 +13,7 @@ const FIRST: u8 = 32;
 const LAST: u8 = 126;
 
 // A name that was read: how many bytes it takes in the list, and how long it is. Both are 0 where there is none.
-#[derive(Drop)]
+#[derive(Clone, Copy)]
 pub struct Name {
     pub size: usize,
     pub length: usize,

@@ -11,7 +11,7 @@ use crate::{Content, Dialect, Member, RFC_6733, base, plain};
 use diameter::{Avp, Read, Span, codes};
 
 // The groups that a request's AVPs may be: 260, 612, 628 and 700.
-#[derive(Drop)]
+#[derive(Clone, Copy)]
 pub enum Group {
     Application,
     AuthDataItem,

@@ -15,7 +15,7 @@ use crate::group::Group;
 
 // What a call is served under: the application that is spoken, the edition of the base standard that the peer follows, and the features that the server
 // supports, a bit for each.
-#[derive(Drop)]
+#[derive(Clone, Copy)]
 pub struct Terms {
     pub application: u32,
     pub peer: u32,
@@ -28,7 +28,7 @@ pub const RFC_3588: u32 = 3588;
 pub const RFC_6733: u32 = 6733;
 
 // What a request is read by: the command that it asks for, and the terms of the call.
-#[derive(Drop)]
+#[derive(Clone, Copy)]
 pub struct Dialect {
     pub command: usize,
     pub terms: Terms,
@@ -46,7 +46,7 @@ pub const MAR: usize = 303;
 pub const UDR: usize = 306;
 
 // "B is a base Result-Code, X an Experimental-Result of vendor 10415. They share numbers and never stand for one another."
-#[derive(Drop)]
+#[derive(Clone, Copy)]
 pub enum Outcome {
     Base(u32),
     Experimental(u32),
@@ -63,7 +63,7 @@ pub fn number_of(o: Outcome) -> u32
 }
 
 // A result beside the place of the AVP at fault (0: no AVP of the request is) and the kind that is missing (0: none is).
-#[derive(Drop)]
+#[derive(Clone, Copy)]
 pub struct Verdict {
     pub result: Outcome,
     pub place: usize,
@@ -71,7 +71,7 @@ pub struct Verdict {
 }
 
 // What the data of a kind must be: anything; a 4-byte number within limits; so many bytes; the members of a group.
-#[derive(Drop)]
+#[derive(Clone, Copy)]
 pub enum Content {
     Free,
     Number(u32, u32),
@@ -80,7 +80,7 @@ pub enum Content {
 }
 
 // What a dialect makes of a kind of AVP. Of the kinds that it names: needed once, optional and once, any number, needed and any number.
-#[derive(Drop)]
+#[derive(Clone, Copy)]
 pub enum Use {
     Unknown,
     Unnamed,
@@ -91,7 +91,7 @@ pub enum Use {
 }
 
 // What is made of a kind in a UAR, in a SAR, in a LIR, in a MAR, and on Sh, whose one command is the UDR.
-#[derive(Drop)]
+#[derive(Clone, Copy)]
 pub struct Uses {
     pub uar: Use,
     pub sar: Use,
@@ -101,7 +101,7 @@ pub struct Uses {
 }
 
 // A kind of AVP: its code and vendor, its content, and what is made of it.
-#[derive(Drop)]
+#[derive(Clone, Copy)]
 pub struct Kind {
     pub code: u32,
     pub vendor: u32,
@@ -110,7 +110,7 @@ pub struct Kind {
 }
 
 // A member of a group: its code and vendor (0: without V), its content, and whether it may come more than once.
-#[derive(Drop)]
+#[derive(Clone, Copy)]
 pub struct Member {
     pub code: u32,
     pub vendor: u32,
@@ -119,7 +119,7 @@ pub struct Member {
 }
 
 // What rules (c) to (h) say of one AVP: it is taken, it is skipped, or it is at fault with this base result.
-#[derive(Drop)]
+#[derive(Clone, Copy)]
 pub enum Ruled {
     Taken,
     Skipped,

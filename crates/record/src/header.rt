@@ -7,7 +7,7 @@ use crate::networks;
 use octets::{number, run, sum};
 
 // The numbers of the header block. Its names stay in the table.
-#[derive(Drop)]
+#[derive(Clone, Copy)]
 pub struct Header {
     pub kind: u8,
     pub edition: u8,

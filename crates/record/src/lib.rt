@@ -1,3 +1,4 @@
+#![tactic(auto)]
 // One block of the table: the header with its networks, and a record.
 pub mod fields;
 pub mod header;

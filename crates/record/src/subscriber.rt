@@ -9,7 +9,7 @@ use crate::header::Header;
 use octets::{number, run, sum};
 
 // The numbers of a record block. Its names stay in the table.
-#[derive(Drop)]
+#[derive(Clone, Copy)]
 pub struct Record {
     pub kind: u8,
     pub edition: u8,

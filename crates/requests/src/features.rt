@@ -13,7 +13,7 @@ use diameter::{Read, message};
 use reading::{Dialect, Terms, features, kinds};
 
 // Whether the server's own list is called for, and whether a feature is asked for that it does not support.
-#[derive(Drop)]
+#[derive(Clone, Copy)]
 pub struct Wanted {
     pub listed: bool,
     pub beyond: bool,

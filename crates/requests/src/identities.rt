@@ -5,7 +5,7 @@ use diameter::Read;
 use reading::kinds;
 
 // The next Public-Identity: its place, and the place after it.
-#[derive(Drop)]
+#[derive(Clone, Copy)]
 pub enum Next {
     At { place: usize, past: usize },
     Nothing,

@@ -19,7 +19,7 @@ use reading::{Dialect, Terms, Verdict, base, kinds};
 
 // What reading a request found: its AVPs, whose places it left in what was lent to it, or the first fault. For each kind's number that is the place of
 // its last AVP, the message's length where none came.
-#[derive(Drop)]
+#[derive(Clone, Copy)]
 pub enum Walked {
     Read,
     Fault(Verdict),

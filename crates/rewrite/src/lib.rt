@@ -15,7 +15,7 @@ use record::subscriber::Record;
 use record::{fields, sets};
 
 // What an effect does to a record: "Effects, pending cleared", with the state that it gets; or what goes with a challenge.
-#[derive(Drop)]
+#[derive(Clone, Copy)]
 pub enum Change {
     Settled(u8),
     Challenged,

@@ -28,7 +28,7 @@ const WORD: usize = 8;
 const MOST: usize = 4294967295;
 
 // What a row comes to: its number, how many requests have a word, whether some request altered a record, and whether one marked a vector.
-#[derive(Drop)]
+#[derive(Clone, Copy)]
 pub struct Ended {
     pub number: u16,
     pub served: u32,
@@ -37,7 +37,7 @@ pub struct Ended {
 }
 
 // What one call does: how many bytes of its area of answers are used then, whether it altered a record, whether it marked a vector.
-#[derive(Drop)]
+#[derive(Clone, Copy)]
 struct Done {
     used: usize,
     altered: bool,
@@ -45,7 +45,7 @@ struct Done {
 }
 
 // Where a call stands in its row: what it shares with the others, and how many bytes of `answers` and how many words those before it have.
-#[derive(Drop)]
+#[derive(Clone, Copy)]
 struct Here {
     shared: Shared,
     used: usize,

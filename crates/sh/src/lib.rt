@@ -11,7 +11,7 @@ ghost use Rattle.sh.specs.Replies.{Replies};
 use reading::Dialect;
 
 // What is said of an answer: its length, and the place of the AVP at fault, 0 where none is.
-#[derive(Drop)]
+#[derive(Clone, Copy)]
 pub struct Reply {
     pub length: u32,
     pub place: u16,

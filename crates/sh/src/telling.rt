@@ -12,7 +12,7 @@ use requests::{Walked, places};
 use user_data::References;
 
 // The verdict; the block of the record that is told of, 0 for none; what was asked of it.
-#[derive(Drop)]
+#[derive(Clone, Copy)]
 pub struct Telling {
     pub verdict: Verdict,
     pub block: u32,

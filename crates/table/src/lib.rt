@@ -64,7 +64,7 @@ fn set_after(t: &[u8], i: usize) -> u32
 }
 
 // How many records from the first on stand in their places, and whether none of them nor the next one has a set: its bytes are at hand in this pass.
-#[derive(Drop)]
+#[derive(Clone, Copy)]
 struct Stood {
     records: usize,
     setless: bool,

@@ -19,7 +19,7 @@ pub const NOT_GREATER: u16 = 10;
 pub const TOO_SHORT: u16 = 11;
 
 // How many records the new table has, or a refusal's number.
-#[derive(Drop)]
+#[derive(Clone, Copy)]
 pub enum Taken {
     Took(u32),
     Refused(u16),

@@ -9,7 +9,7 @@ use diameter::codes;
 use octets::run;
 
 // What the Data-References of a request ask for: the registration state (11), the server name (12), anything else.
-#[derive(Drop)]
+#[derive(Clone, Copy)]
 pub struct References {
     pub state: bool,
     pub name: bool,

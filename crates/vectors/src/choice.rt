@@ -12,7 +12,7 @@ use octets::name;
 pub const MOST: usize = 16;
 
 // The numbers of the blocks that are sent: the first so many of the array.
-#[derive(Drop)]
+#[derive(Clone, Copy)]
 pub struct Sent {
     pub blocks: [u32; MOST],
     pub count: usize,

@@ -7,7 +7,7 @@ use octets::{run, sum};
 
 // The numbers of a vector block: kind, used, and the lengths of XRES and of the private identity. Its name, its challenge and its keys stay in the
 // file.
-#[derive(Drop)]
+#[derive(Clone, Copy)]
 pub struct Vector {
     pub kind: u8,
     pub used: u8,

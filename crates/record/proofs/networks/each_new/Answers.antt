@@ -1,0 +1,12 @@
+use Rattle.octets.specs.Standard.{rules}
+use Rattle.octets.proofs.All.{all_none, all_more, all_end}
+use Rattle.record.proofs.networks.each_new.Goals as goal
+
+pub loop-j-init : goal.loop-j-init
+loop-j-init c = search (rules, all_none)
+
+pub loop-j-preserved : goal.loop-j-preserved
+loop-j-preserved c = search (rules, all_more)
+
+pub returns : goal.returns
+returns c = search (rules, all_end)
