@@ -1,3 +1,4 @@
+#![tactic(auto)]
 // AVPs written into the part of a buffer that starts at the current length.
 pub mod group;
 

@@ -1,3 +1,4 @@
+#![tactic(auto)]
 // Reading a request: the kinds of AVPs, and rules (c) to (h) for one AVP.
 
 pub mod base;

@@ -1,3 +1,4 @@
+#![tactic(auto)]
 // The line of a record, written. Its laws, and those of reading it back as a block, are in proofs/.
 ghost use Rattle.std.specs.Prelude.{◌≡◌, [], ◌∷◌, ◌+◌, ◌≤◌, length};
 ghost use Rattle.octets.specs.Number.{be32_at};

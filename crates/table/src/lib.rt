@@ -1,3 +1,4 @@
+#![tactic(auto)]
 // The check of a whole table, block by block.
 pub mod area;
 pub mod hash;

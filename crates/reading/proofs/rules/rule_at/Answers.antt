@@ -1,0 +1,6 @@
+use Rattle.reading.proofs.Judging.{rule_there}
+use Rattle.octets.specs.Standard.{rules}
+use Rattle.reading.proofs.rules.rule_at.Goals as goal
+
+pub returns : goal.returns
+returns c = search (rules, rule_there)
