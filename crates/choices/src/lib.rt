@@ -1,3 +1,4 @@
+#![tactic(auto)]
 // Pure choice, without bytes: what each decision comes to by the answers to its questions, what the answer carries then, and what is to be written.
 pub mod challenge;
 pub mod choice;

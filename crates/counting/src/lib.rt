@@ -1,3 +1,4 @@
+#![tactic(auto)]
 // One request counted: the words of a report over a file of requests, kept as an array of 64-bit numbers.
 pub mod results;
 pub mod words;

@@ -1,3 +1,4 @@
+#![tactic(auto)]
 // Failed-AVP: the faulty AVP of a request, its header alone, or an example of one that is missing.
 ghost use Rattle.std.specs.Prelude.{◌≡◌, ◌+◌, ◌*◌, ◌≤◌, ◌<◌, length, take, drop};
 ghost use Rattle.octets.specs.Run.{Wrote};

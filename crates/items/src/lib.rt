@@ -1,3 +1,4 @@
+#![tactic(auto)]
 // The items of an answer to an authentication request: one SIP-Auth-Data-Item for each vector that is sent.
 ghost use Rattle.std.specs.Prelude.{◌≡◌, ◌++◌, ◌+◌, ◌≤◌, length};
 ghost use Rattle.octets.specs.Run.{Wrote};

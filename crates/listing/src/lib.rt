@@ -1,3 +1,4 @@
+#![tactic(auto)]
 // A table written as a list: export.
 ghost use Rattle.std.specs.Prelude.{◌≡◌, ◌+◌, ◌*◌, ◌≤◌, length};
 ghost use Rattle.octets.specs.Run.{Wrote};

@@ -1,3 +1,4 @@
+#![tactic(auto)]
 // Records found by their identities, a subscription's first server name, a visited network's number.
 ghost use Rattle.std.specs.Prelude.{◌≡◌, ◌+◌, ◌*◌, ◌/◌, ◌%◌, ◌^◌, ◌≤◌, ◌<◌, length, eqb};
 ghost use Rattle.record.specs.Fields.{networks_of};

@@ -1,3 +1,4 @@
+#![tactic(auto)]
 // The move of a table from edition 1 to edition 2, and the move back, in place.
 ghost use Rattle.std.specs.Prelude.{◌≡◌, ◌+◌, ◌*◌, ◌≤◌, length};
 ghost use Rattle.table.specs.Check.{check_table};

@@ -1,3 +1,4 @@
+#![tactic(auto)]
 // A line read back as a record block.
 pub mod block;
 pub mod line;

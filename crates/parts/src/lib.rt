@@ -1,3 +1,4 @@
+#![tactic(auto)]
 // What an answer takes out of the table and the profile file, as parts of them.
 ghost use Rattle.std.specs.Prelude.{◌≡◌, ◌&&◌, ◌+◌, ◌*◌, ◌≤◌, length, take, drop, leb, ltb};
 ghost use Rattle.record.specs.Fields.{host_of, realm_of, private_of, public_of, server_of, mandatory_of, optional_of, profile_of};

@@ -1,3 +1,4 @@
+#![tactic(auto)]
 // The check of a table, without cleverness: every sentence of "The table" tested of every block, from block 0 on.
 pub mod bytes;
 mod header;

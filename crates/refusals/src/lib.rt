@@ -1,3 +1,4 @@
+#![tactic(auto)]
 // The refusals of a call that look at no file: what a request and a buffer must be.
 ghost use Rattle.std.specs.Prelude.{◌≡◌, ◌≤◌, length};
 ghost use Rattle.refusals.specs.Early.{wrong_length, early};

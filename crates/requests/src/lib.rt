@@ -1,3 +1,4 @@
+#![tactic(auto)]
 // A whole request: its header, its AVPs, and what is missing.
 pub mod features;
 pub mod identities;

@@ -11,7 +11,7 @@ use reading::{Dialect, Outcome, Ruled, Verdict, base, kinds, rules};
 
 // A fault: its base result, the place of the AVP at fault (0: none is), the kind that is missing (0: none is).
 pub fn refuse(number: u32, place: usize, lacks: usize) -> Walked
-    ensures* { λ r. ⌜ r ≡ Walked.Fault (record { result = Base number; place = place; lacks = lacks }) ⌝ }
+    ensures { result ≡ Walked.Fault (record { result = Base number; place = place; lacks = lacks }) }
 {
     Walked::Fault(Verdict {
         result: Outcome::Base(number),

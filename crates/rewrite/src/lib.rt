@@ -1,3 +1,4 @@
+#![tactic(auto)]
 // Records written anew: another state, pending cleared or set, another server name, a new check word.
 ghost use Rattle.std.specs.Prelude.{◌≡◌, cond, [], ◌∷◌, ◌+◌, ◌*◌, ◌≤◌, ◌<◌, length};
 ghost use Rattle.octets.specs.Name.{same};

@@ -1,3 +1,4 @@
+#![tactic(auto)]
 // Taking over a new table: it is written over the working area, block by block.
 ghost use Rattle.std.specs.Prelude.{◌≡◌, ◌+◌, ◌*◌, ◌/◌, ◌≤◌, length};
 ghost use Rattle.octets.specs.Run.{over};

@@ -1,3 +1,4 @@
+#![tactic(auto)]
 // User-Data 702 of an answer: the XML of docs/SH.md, written where it stays.
 ghost use Rattle.std.specs.Prelude.{◌≡◌, ◌++◌, ◌+◌, ◌≤◌, length};
 ghost use Rattle.octets.specs.Run.{Wrote};

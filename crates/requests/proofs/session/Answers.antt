@@ -1,0 +1,19 @@
+use Rattle.diameter.proofs.Reading.{read_here}
+use Rattle.requests.proofs.Requests.{session_none, session_there, session_other}
+use Rattle.octets.specs.Standard.{rules}
+use Rattle.requests.proofs.session.Goals as goal
+
+pub returns-in_default : goal.returns-in_default
+returns-in_default c = search (rules, session_none)
+
+pub kind_of-requires : goal.kind_of-requires
+kind_of-requires c = search (rules, read_here)
+
+pub avp_part-requires : goal.avp_part-requires
+avp_part-requires c = search (rules, read_here)
+
+pub returns-then-kind_of-a : goal.returns-then-kind_of-a
+returns-then-kind_of-a c = search (rules, session_there)
+
+pub returns : goal.returns
+returns c = search (rules, session_other)
