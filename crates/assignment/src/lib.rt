@@ -1,3 +1,4 @@
+#![tactic(auto)]
 // SAR: the records are looked at first, and written when the answer stands.
 pub mod assigning;
 pub mod looking;

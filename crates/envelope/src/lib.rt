@@ -1,3 +1,4 @@
+#![tactic(auto)]
 // What every answer has, whoever decided: its header, how it begins, how it ends.
 pub mod front;
 pub mod header;

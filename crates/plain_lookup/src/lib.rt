@@ -1,3 +1,4 @@
+#![tactic(auto)]
 // What the decisions ask of a sound table: every look-up is a scan from block 1.
 ghost use Rattle.std.specs.Prelude.{◌≡◌, ◌≤◌, ◌<◌, length};
 ghost use Rattle.record.specs.Fields.{networks_of};

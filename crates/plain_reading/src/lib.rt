@@ -1,3 +1,4 @@
+#![tactic(auto)]
 // Reading without cleverness: every AVP's place is listed, each rule of document 01 is tried in a pass of its own, and the fault that comes first decides.
 ghost use Rattle.std.specs.Prelude.{◌≡◌, ◌&&◌, not, ◌≤◌, ◌<◌, length, take, get_or};
 ghost use Rattle.diameter.specs.AvpAt.{part_at, present};

@@ -1,3 +1,4 @@
+#![tactic(auto)]
 // 02 [1]: the vector file, without cleverness: its check, sentence by sentence, and the first unused vectors of a name.
 ghost use Rattle.std.specs.Prelude.{◌≡◌, ◌+◌, ◌*◌, ◌≤◌, ◌<◌, length};
 ghost use Rattle.vectors.specs.Chosen.{unused_at, unused_of, packed};
