@@ -1,3 +1,4 @@
+#![tactic(auto)]
 // The whole answer: header, what every answer has, what a decision gives, the end.
 pub mod last;
 

@@ -1,3 +1,4 @@
+#![tactic(auto)]
 // The first line of a list that no export could hold there.
 pub mod members;
 pub mod standing;

@@ -1,3 +1,4 @@
+#![tactic(auto)]
 // "SAR.": every rule is a pass over the records that are meant, and the first that fails decides. The records are written when the answer stands.
 pub mod effects;
 

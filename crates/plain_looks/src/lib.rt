@@ -1,3 +1,4 @@
+#![tactic(auto)]
 // What else is looked for in a request, over the same list of places: Session-Id, Supported-Features, Proxy-Info.
 ghost use Rattle.std.specs.Prelude.{◌≡◌, ◌≤◌, ◌<◌, length, get_or};
 ghost use Rattle.std.proofs.Math.Option.{none};

@@ -1,3 +1,4 @@
+#![tactic(auto)]
 // "Decisions": UAR, LIR and 02 [1]'s authentication request over a sound table. Every question is asked, and the choice has document 01's order.
 ghost use Rattle.std.specs.Prelude.{◌≡◌, length};
 ghost use Rattle.blocks.specs.Blocks.{block_of};

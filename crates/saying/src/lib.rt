@@ -1,3 +1,4 @@
+#![tactic(auto)]
 // What the lines of a list say, as blocks: read in their order, read again, and written as a table.
 ghost use Rattle.std.specs.Prelude.{◌≡◌, ◌+◌, ◌*◌, ◌≤◌, ◌<◌, length, drop};
 ghost use Rattle.octets.specs.Run.{Wrote};

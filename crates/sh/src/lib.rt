@@ -1,3 +1,4 @@
+#![tactic(auto)]
 // One User-Data-Request over a sound table: read, decided, answered. The table is only read.
 pub mod answer;
 pub mod references;

@@ -1,0 +1,16 @@
+use Rattle.octets.specs.Standard.{rules}
+use Rattle.table.proofs.Remembered.{find_first}
+use Rattle.judging.proofs.Slots.{reached, search_more, search_here}
+use Rattle.judging.proofs.members.find.Goals as goal
+
+pub loop-k-init : goal.loop-k-init
+loop-k-init c = (search (rules, find_first), search rules)
+
+pub stops-requires : goal.stops-requires
+stops-requires c = (search rules, search rules, search rules, search rules, search (rules, reached))
+
+pub returns-then-stops : goal.returns-then-stops
+returns-then-stops c = search (rules, search_here)
+
+pub loop-k-preserved : goal.loop-k-preserved
+loop-k-preserved c = (search (rules, search_more), search rules)

@@ -1,0 +1,13 @@
+use Rattle.lookup.proofs.Among.{among_from, among_to}
+use Rattle.assignment.proofs.NameTurns.{change_fits, found_settled, found_none}
+use Rattle.octets.specs.Standard.{rules}
+use Rattle.plain_assignment.proofs.effects.settle_found.Goals as goal
+
+pub change_set-requires : goal.change_set-requires
+change_set-requires c = (search rules, search (rules, among_from), search (rules, among_to), search (rules, change_fits))
+
+pub returns-in-At : goal.returns-in-At
+returns-in-At c = search (rules, found_settled)
+
+pub returns-in-Nothing : goal.returns-in-Nothing
+returns-in-Nothing c = search (rules, found_none)
