@@ -1,3 +1,4 @@
+#![tactic(auto)]
 // A list read back as a table. Nothing is written before all of it is judged.
 ghost use Rattle.std.specs.Prelude.{◌≡◌, ◌+◌, ◌≤◌, length};
 ghost use Rattle.importing.specs.Said.{table_said, first_wrong};

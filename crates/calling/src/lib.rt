@@ -1,3 +1,4 @@
+#![tactic(auto)]
 // One call: the refusals, tried in order, and the answer.
 ghost use Rattle.std.specs.Prelude.{◌≡◌, ◌≤◌, length};
 ghost use Rattle.table.specs.Check.{check_table};

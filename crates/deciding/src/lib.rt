@@ -1,3 +1,4 @@
+#![tactic(auto)]
 // One request over a sound table and a sound vector file: looked at, answered, carried out.
 pub mod doing;
 pub mod planning;

@@ -1,3 +1,4 @@
+#![tactic(auto)]
 // "The answer", in document 01's order. What it takes of the request is looked for in the list of places.
 ghost use Rattle.std.specs.Prelude.{◌≡◌, ◌+◌, ◌≤◌, length};
 ghost use Rattle.octets.specs.Run.{Wrote};

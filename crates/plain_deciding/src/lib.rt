@@ -1,3 +1,4 @@
+#![tactic(auto)]
 // One request over a sound table and a sound vector file: planned by its command, answered, and then done.
 ghost use Rattle.std.specs.Prelude.{false, ◌≡◌, ◌≤◌, length};
 ghost use Rattle.table.specs.SoundTable.{SoundTable};

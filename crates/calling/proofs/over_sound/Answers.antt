@@ -1,0 +1,12 @@
+use Rattle.calling.proofs.Calls.{vectors_sound, over_answered, over_spoilt}
+use Rattle.octets.specs.Standard.{rules}
+use Rattle.calling.proofs.over_sound.Goals as goal
+
+pub answer_sound-requires : goal.answer_sound-requires
+answer_sound-requires c = search (rules, vectors_sound)
+
+pub returns-in-Sound : goal.returns-in-Sound
+returns-in-Sound c = search (rules, over_answered)
+
+pub returns-in-Bad : goal.returns-in-Bad
+returns-in-Bad c = search (rules, over_spoilt)

@@ -1,0 +1,9 @@
+use Rattle.deciding.proofs.Answering.{fault_sendable, fault_room, fault_tells, fault_table, fault_vectors}
+use Rattle.octets.specs.Standard.{rules}
+use Rattle.deciding.proofs.answer_fault.Goals as goal
+
+pub answer-length-requires : goal.answer-length-requires
+answer-length-requires c = search (rules, fault_sendable, fault_room)
+
+pub returns : goal.returns
+returns c = (search (rules, fault_tells), search (rules, fault_table), search (rules, fault_vectors))
