@@ -44,6 +44,9 @@ def spelled(path, text, rows, camel):
     if path.endswith(".md"):
         return re.sub(r"`[^`\n]+`", lambda m: turned(m.group(), rows), text)
     mark = re.compile(r"//[^\n]*") if path.endswith(".rt") else COMMENT
+    if path.endswith(".rt"):
+        # a row with neither a capital nor a dash is a law's, and in .rt files a function's
+        rows = {old: new for old, new in rows.items() if old != old.lower() or "-" in old}
     code = lambda t: outside(STRING, t, lambda s: s, lambda s: turned(s, rows))
     if path.endswith(".edit"):
         return code(text)

@@ -1,3 +1,4 @@
+#![tactic(auto)]
 // What the daemon calls.
 pub mod plain;
 pub mod word;
@@ -215,7 +216,7 @@ fn bit(set: bool, value: u16) -> u16
 }
 
 // The word of a row: what it altered is in the place, a bit for records and one for vectors.
-fn row_word_lem(e: Ended) -> u64
+fn row_word(e: Ended) -> u64
     ensures { result ≡ ended_word e }
 {
     let records = bit(e.altered, 1);
@@ -246,7 +247,7 @@ pub extern "C" fn ndushavire_row(
         peer,
         features,
     };
-    row_word_lem(row_of_calls::row(requests, table, profile, vectors, answers, words, terms))
+    row_word(row_of_calls::row(requests, table, profile, vectors, answers, words, terms))
 }
 
 // Which library was linked, so that a daemon can tell it from the header that it was compiled with: 0.17.0, as NDUSHAVIRE_VERSION_NUMBER has it.

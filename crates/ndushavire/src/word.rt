@@ -23,7 +23,7 @@ pub fn number_in(w: u64) -> u32
 }
 
 // What is returned besides: the answer's length, where there is one.
-pub fn value_in_lem(w: u64) -> u32
+pub fn value_in(w: u64) -> u32
     ensures { result ≡ value_in w }
 {
     (w % PLACE) as u32

@@ -1,3 +1,4 @@
+#![tactic(auto)]
 // One call without cleverness: the refusals in order, the table and the vector file checked, every AVP's place listed, the request read, decided, answered.
 ghost use Rattle.std.specs.Prelude.{◌≡◌, ◌≤◌, length, take};
 ghost use Rattle.table.specs.Check.{check_table};

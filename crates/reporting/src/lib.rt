@@ -1,3 +1,4 @@
+#![tactic(auto)]
 // A report over a file of requests laid end to end: each is decided in turn and counted.
 ghost use Rattle.std.specs.Prelude.{cond, ◌≡◌, ◌≤◌, eqb, length};
 ghost use Rattle.table.specs.Check.{check_table};

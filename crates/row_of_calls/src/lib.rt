@@ -1,3 +1,4 @@
+#![tactic(auto)]
 // The row: requests laid end to end, served in turn. Each has its word in one area, and its answer in another, right behind the one before.
 ghost use Rattle.std.specs.Prelude.{◌≡◌, ◌≤◌, ◌+◌, ◌*◌, ◌-◌, length};
 ghost use Rattle.octets.specs.Run.{Wrote};
@@ -168,7 +169,7 @@ fn serve_at(
 }
 
 // Whether there is no room for one more: in what is left of `answers`, of `words`, and of the words that a row may have.
-fn no_room_lem(answers: usize, words: usize, used: usize, served: usize) -> bool
+fn no_room(answers: usize, words: usize, used: usize, served: usize) -> bool
     requires { (used ≤ answers) × (8 * served ≤ words) × (served ≤ 4294967295) }
     ensures { result ≡ no_room (answers - used) (words - 8 * served) (4294967295 - served) }
 {
@@ -213,7 +214,7 @@ fn run(
         if n == 0 {
             return ends(STOPPED, served, altered, marked);
         }
-        if no_room_lem(answers.len(), words.len(), used, served) {
+        if no_room(answers.len(), words.len(), used, served) {
             return ends(NO_ROOM, served, altered, marked);
         }
         let h = Here {
