@@ -1,3 +1,4 @@
+#![tactic(auto)]
 // What the daemon calls for the Sh interface. Of the first library it asks the table's check, by its promise, and takes the word's form.
 ghost use Rattle.std.specs.Prelude.{◌≡◌};
 ghost use Rattle.requests.specs.Request.{under_sh};
