@@ -1,1 +1,2 @@
+#![tactic(auto)]
 // Laws of the list for the billing desk: no code.
