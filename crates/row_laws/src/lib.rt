@@ -1,1 +1,2 @@
+#![tactic(auto)]
 // What a row comes to, as theorems about `rowed`: proofs/Rows.antt. There is no code here.
