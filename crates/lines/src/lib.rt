@@ -1,3 +1,4 @@
+#![tactic(auto)]
 // Words and numbers, as a line of text has them.
 ghost use Rattle.std.specs.Prelude.{◌+◌, ◌≤◌, length};
 ghost use Rattle.lines.specs.Words.{Number, Words};
