@@ -1,9 +1,10 @@
+#![tactic(auto)]
 // The arguments of a program that takes none: `--help` and `--version` are answered, and all others refused.
 ghost use Rattle.std.specs.Prelude.{◌≡◌};
 ghost use Rattle.arguments.specs.Asked.{asked_by, asked_if};
 
-use libc::{STDERR_FILENO, STDOUT_FILENO};
 use octets::name;
+use std::env::{Env, FillError};
 
 // What an argument asks for.
 #[derive(Clone, Copy)]
@@ -35,46 +36,56 @@ fn asked_by(word: &[u8]) -> Asked
 }
 
 // What the first argument asks for. One that does not fit is none of the known ones, and neither is the empty word that it is taken for.
-fn asked_first() -> Asked {
+fn asked_first(rt: &impl Env) -> Asked {
     let mut space = [0u8; 16];
-    let n = os::arg(1, &mut space);
-    asked_by(&space[..n])
-}
-
-fn say(text: &[u8]) {
-    if !io::write_all(STDOUT_FILENO, text) {
-        os::fail(b"standard output");
+    match rt.arg(1, &mut space) {
+        Ok(n) => asked_by(&space[..n]),
+        Err(_) => asked_by(b""),
     }
 }
 
-fn refuse(program: &[u8]) {
-    io::write_all(STDERR_FILENO, program);
-    io::write_all(
-        STDERR_FILENO,
-        b": no arguments are taken but --help or --version alone\n",
+fn say(rt: &(impl Print + Eprint), text: &[u8]) {
+    if let Err(error) = rt.write_all(text) {
+        files::fail(rt, b"standard output", &error);
+    }
+}
+
+fn refuse(rt: &impl Eprint, program: &[u8]) {
+    files::say(
+        rt,
+        program,
+        b"no arguments are taken but --help or --version alone",
     );
 }
 
-fn reply(asked: Asked, program: &[u8], help: &[u8]) {
+fn reply(rt: &(impl Env + Print + Eprint), asked: Asked, program: &[u8], help: &[u8]) {
     match asked {
-        Asked::Help => say(help),
+        Asked::Help => say(rt, help),
         Asked::Version => {
-            say(program);
-            say(b" 0.17.0\n");
+            say(rt, program);
+            say(rt, b" 0.17.0\n");
         }
-        Asked::Other => refuse(program),
+        Asked::Other => refuse(rt, program),
+    }
+}
+
+// Whether there is an argument of this number.
+fn is_there(rt: &impl Env, number: usize) -> bool {
+    let mut space = [0u8; 1];
+    match rt.arg(number, &mut space) {
+        Err(FillError::NotPresent) => false,
+        _ => true,
     }
 }
 
 // Whether there are arguments. They are answered or refused here, and nothing else is left to do.
-pub fn given(program: &[u8], help: &[u8]) -> bool {
-    let count = os::arg_count();
-    if count == 2 {
-        reply(asked_first(), program, help);
+pub fn given(rt: &(impl Env + Print + Eprint), program: &[u8], help: &[u8]) -> bool {
+    if is_there(rt, 2) {
+        refuse(rt, program);
         return true;
     }
-    if 2 < count {
-        refuse(program);
+    if is_there(rt, 1) {
+        reply(rt, asked_first(rt), program, help);
         return true;
     }
     false

@@ -2,12 +2,12 @@
 use octets::run;
 use streams::{outcome, words};
 
-fn check(given: &[u8], w: &[u8; 64]) -> bool {
+fn check(rt: &impl Print, given: &[u8], w: &[u8; 64]) -> bool {
     let word = ndushavire::ndushavire_check(words::slice(given, w, 0), words::slice(given, w, 1));
-    outcome::put(word, 0)
+    outcome::put(rt, word, 0)
 }
 
-fn decide(given: &[u8], w: &[u8; 64]) -> bool {
+fn decide(rt: &impl Print, given: &[u8], w: &[u8; 64]) -> bool {
     let table = words::slice(given, w, 1);
     let vectors = words::slice(given, w, 3);
     let buffer = words::slice(given, w, 4);
@@ -29,18 +29,18 @@ fn decide(given: &[u8], w: &[u8; 64]) -> bool {
         words::number_of(w, 5),
         words::number_of(w, 6),
     );
-    outcome::put(word, 3)
-        & outcome::put_change(table, &t)
-        & outcome::put_change(vectors, &v)
-        & outcome::put_change(buffer, &out)
+    outcome::put(rt, word, 3)
+        & outcome::put_change(rt, table, &t)
+        & outcome::put_change(rt, vectors, &v)
+        & outcome::put_change(rt, buffer, &out)
 }
 
-fn check_vectors(given: &[u8], w: &[u8; 64]) -> bool {
+fn check_vectors(rt: &impl Print, given: &[u8], w: &[u8; 64]) -> bool {
     let word = ndushavire::ndushavire_check_vectors(words::slice(given, w, 0));
-    outcome::put(word, 0)
+    outcome::put(rt, word, 0)
 }
 
-fn report(given: &[u8], w: &[u8; 64]) -> bool {
+fn report(rt: &impl Print, given: &[u8], w: &[u8; 64]) -> bool {
     let table = words::slice(given, w, 1);
     let vectors = words::slice(given, w, 3);
     let buffer = words::slice(given, w, 4);
@@ -67,14 +67,14 @@ fn report(given: &[u8], w: &[u8; 64]) -> bool {
         words::number_of(w, 6),
         words::number_of(w, 7),
     );
-    outcome::put(word, 4)
-        & outcome::put_change(table, &t)
-        & outcome::put_change(vectors, &v)
-        & outcome::put_change(buffer, &out)
-        & outcome::put_change(area, &written)
+    outcome::put(rt, word, 4)
+        & outcome::put_change(rt, table, &t)
+        & outcome::put_change(rt, vectors, &v)
+        & outcome::put_change(rt, buffer, &out)
+        & outcome::put_change(rt, area, &written)
 }
 
-fn forward(given: &[u8], w: &[u8; 64]) -> bool {
+fn forward(rt: &impl Print, given: &[u8], w: &[u8; 64]) -> bool {
     let table = words::slice(given, w, 0);
     let mut t = [0u8; 40000];
     run::copy(&mut t, table);
@@ -84,19 +84,19 @@ fn forward(given: &[u8], w: &[u8; 64]) -> bool {
         words::slice(given, w, 1),
         words::number_of(w, 2),
     );
-    outcome::put(word, 1) & outcome::put_change(table, &t)
+    outcome::put(rt, word, 1) & outcome::put_change(rt, table, &t)
 }
 
-fn back(given: &[u8], w: &[u8; 64]) -> bool {
+fn back(rt: &impl Print, given: &[u8], w: &[u8; 64]) -> bool {
     let table = words::slice(given, w, 0);
     let mut t = [0u8; 40000];
     run::copy(&mut t, table);
     let n = table.len();
     let word = ndushavire::ndushavire_back(&mut t[..n], words::slice(given, w, 1));
-    outcome::put(word, 1) & outcome::put_change(table, &t)
+    outcome::put(rt, word, 1) & outcome::put_change(rt, table, &t)
 }
 
-fn take(given: &[u8], w: &[u8; 64]) -> bool {
+fn take(rt: &impl Print, given: &[u8], w: &[u8; 64]) -> bool {
     let area = words::slice(given, w, 0);
     let mut a = [0u8; 40000];
     run::copy(&mut a, area);
@@ -106,10 +106,10 @@ fn take(given: &[u8], w: &[u8; 64]) -> bool {
         words::slice(given, w, 1),
         words::slice(given, w, 2),
     );
-    outcome::put(word, 1) & outcome::put_change(area, &a)
+    outcome::put(rt, word, 1) & outcome::put_change(rt, area, &a)
 }
 
-fn export(given: &[u8], w: &[u8; 64]) -> bool {
+fn export(rt: &impl Print, given: &[u8], w: &[u8; 64]) -> bool {
     let list = words::slice(given, w, 2);
     let mut out = [0u8; 40000];
     run::copy(&mut out, list);
@@ -119,10 +119,10 @@ fn export(given: &[u8], w: &[u8; 64]) -> bool {
         words::slice(given, w, 1),
         &mut out[..n],
     );
-    outcome::put(word, 1) & outcome::put_change(list, &out)
+    outcome::put(rt, word, 1) & outcome::put_change(rt, list, &out)
 }
 
-fn import(given: &[u8], w: &[u8; 64]) -> bool {
+fn import(rt: &impl Print, given: &[u8], w: &[u8; 64]) -> bool {
     let table = words::slice(given, w, 3);
     let mut t = [0u8; 40000];
     run::copy(&mut t, table);
@@ -133,10 +133,10 @@ fn import(given: &[u8], w: &[u8; 64]) -> bool {
         words::slice(given, w, 2),
         &mut t[..n],
     );
-    outcome::put(word, 1) & outcome::put_change(table, &t)
+    outcome::put(rt, word, 1) & outcome::put_change(rt, table, &t)
 }
 
-fn sh_decide(given: &[u8], w: &[u8; 64]) -> bool {
+fn sh_decide(rt: &impl Print, given: &[u8], w: &[u8; 64]) -> bool {
     let buffer = words::slice(given, w, 3);
     let mut out = [0u8; 40000];
     run::copy(&mut out, buffer);
@@ -148,22 +148,22 @@ fn sh_decide(given: &[u8], w: &[u8; 64]) -> bool {
         &mut out[..room],
         words::number_of(w, 4),
     );
-    outcome::put(word, 1) & outcome::put_change(buffer, &out)
+    outcome::put(rt, word, 1) & outcome::put_change(rt, buffer, &out)
 }
 
 // Calls an entry by its number in the streams.
-pub fn call(entry: u8, given: &[u8], w: &[u8; 64]) -> bool {
+pub fn call(rt: &impl Print, entry: u8, given: &[u8], w: &[u8; 64]) -> bool {
     match entry {
-        1 => check(given, w),
-        2 => decide(given, w),
-        3 => check_vectors(given, w),
-        4 => report(given, w),
-        5 => forward(given, w),
-        6 => back(given, w),
-        7 => take(given, w),
-        8 => export(given, w),
-        9 => import(given, w),
-        10 => sh_decide(given, w),
+        1 => check(rt, given, w),
+        2 => decide(rt, given, w),
+        3 => check_vectors(rt, given, w),
+        4 => report(rt, given, w),
+        5 => forward(rt, given, w),
+        6 => back(rt, given, w),
+        7 => take(rt, given, w),
+        8 => export(rt, given, w),
+        9 => import(rt, given, w),
+        10 => sh_decide(rt, given, w),
         _ => false,
     }
 }

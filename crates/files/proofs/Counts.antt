@@ -1,9 +1,6 @@
 -- A count of bytes at the front of a buffer, and the length of a buffer of zeros.
-use Prim.Native.Nat.{ℕ, ◌≤◌}
-use mathlib.Core.Path.{◌≡◌, sym}
-use mathlib.Core.List.{List}
-use lib.ListN.{length, take, replicate, length-replicate}
-use lib.Seq.{length-take-le}
+use Rattle.std.proofs.Common.{◌≡◌, ℕ, ◌≤◌, List, sym, length, take, replicate, length-take-le}
+use Rattle.std.proofs.lemmas.List.{length-replicate}
 use Rattle.files.specs.Got.{gotten}
 use Rattle.files.specs.declared.Got.{Got}
 use Rattle.files.specs.declared.Got.TheVariants.{Bytes}

@@ -1,8 +1,15 @@
+#![tactic(auto)]
 // Files and standard input that are read: into memory, or only to learn how long they are. What fails is said on standard error.
-ghost use Rattle.std.specs.Prelude.{◌≤◌, length};
+mod saying;
+
+ghost use Rattle.std.specs.Prelude.{◌≡◌, ◌≤◌, length, IfOk};
 ghost use Rattle.files.specs.Got.{gotten};
 
-use libc::{STDERR_FILENO, STDIN_FILENO};
+pub use saying::{fail, say};
+use std::fs::File;
+use std::io;
+use std::io::{ErrorKind, Read};
+use std::rt::Files;
 
 // How many bytes were read, or none because the file could not be.
 #[derive(Clone, Copy)]
@@ -12,115 +19,111 @@ pub enum Got {
 }
 
 // Reads until out is full or the file ends.
-fn fill(fd: i32, out: &mut [u8]) -> Got
-    ensures { gotten result ≤ length out.new }
+fn fill(from: &mut impl Read, out: &mut [u8]) -> io::Result<usize>
+    ensures { IfOk result (λ n. n ≤ length out.new) }
 {
     let mut n = 0;
     while n < out.len() {
-        let got = libc::read(fd, &mut out[n..]);
-        if got < 0 {
-            return Got::Nothing;
-        }
-        let more = io::count(got, &out[n..]);
+        let more = from.read(&mut out[n..])?;
         if more == 0 {
-            return Got::Bytes(n);
+            return Ok(n);
         }
         n += more;
     }
-    Got::Bytes(n)
+    Ok(n)
 }
 
 // Reads to the end, piece by piece, and counts. The turns end, as a proved loop must: 2^47 are more than any file takes.
-fn count(fd: i32, piece: &mut [u8]) -> Got
+fn count(from: &mut impl Read, piece: &mut [u8]) -> io::Result<usize>
     requires { length piece.old ≤ 65536 }
 {
-    let mut turns: usize = 140737488355328;
     let mut n: usize = 0;
-    while 0 < turns {
-        let got = libc::read(fd, piece);
-        if got < 0 {
-            return Got::Nothing;
-        }
-        let more = io::count(got, piece);
+    for turns in 0..140737488355328u64 {
+        let more = from.read(piece)?;
         if more == 0 {
-            return Got::Bytes(n);
+            return Ok(n);
         }
         n += more;
-        turns -= 1;
     }
-    Got::Nothing
+    Err(io::Error::from(ErrorKind::FileTooLarge))
+}
+
+// A file, open to be read. The system's files have names that are text, and no other can be opened.
+fn open<R: Files>(rt: &R, path: &[u8]) -> io::Result<R::File> {
+    match str::from_utf8(path) {
+        Ok(name) => File::open(rt, name),
+        Err(_) => Err(io::Error::from(ErrorKind::InvalidFilename)),
+    }
 }
 
 // Whether a file is there. Of one that cannot be opened for another reason reading says what is wrong.
-pub fn is_there(path: &[u8]) -> bool {
-    let fd = os::open_read(path);
-    if fd < 0 {
-        return os::errno() != libc::ENOENT;
+pub fn is_there(rt: &impl Files, path: &[u8]) -> bool {
+    match open(rt, path) {
+        Ok(_) => true,
+        Err(error) => error.kind() != ErrorKind::NotFound,
     }
-    libc::close(fd);
-    true
+}
+
+fn load_from(rt: &impl Files, path: &[u8], out: &mut [u8]) -> io::Result<usize>
+    ensures { IfOk result (λ n. n ≤ length out.new) }
+{
+    fill(&mut open(rt, path)?, out)
+}
+
+// Says why a file could not be read.
+fn nothing(rt: &impl Eprint, path: &[u8], error: &io::Error) -> Got
+    ensures { gotten result ≡ 0 }
+{
+    fail(rt, path, error);
+    Got::Nothing
 }
 
 // A file's first bytes, as many as out has room for.
-pub fn load(path: &[u8], out: &mut [u8]) -> Got
+pub fn load(rt: &(impl Files + Eprint), path: &[u8], out: &mut [u8]) -> Got
     ensures { gotten result ≤ length out.new }
 {
-    let fd = os::open_read(path);
-    if fd < 0 {
-        os::fail(path);
-        return Got::Nothing;
+    match load_from(rt, path, out) {
+        Ok(n) => Got::Bytes(n),
+        Err(error) => nothing(rt, path, &error),
     }
-    let got = fill(fd, out);
-    if let Got::Nothing = got {
-        os::fail(path);
-    }
-    libc::close(fd);
-    got
-}
-
-fn too_long(path: &[u8]) {
-    io::write_all(STDERR_FILENO, path);
-    io::write_all(STDERR_FILENO, b": too long\n");
 }
 
 // A whole file. One that leaves no byte of out free may go on, and is too long.
-pub fn load_whole(path: &[u8], out: &mut [u8]) -> Got
+pub fn load_whole(rt: &(impl Files + Eprint), path: &[u8], out: &mut [u8]) -> Got
     ensures { gotten result ≤ length out.new }
 {
-    let Got::Bytes(n) = load(path, out) else {
+    let Got::Bytes(n) = load(rt, path, out) else {
         return Got::Nothing;
     };
     if n < out.len() {
         return Got::Bytes(n);
     }
-    too_long(path);
+    say(rt, path, b"too long");
     Got::Nothing
 }
 
 // The first bytes of standard input, as many as out has room for.
-pub fn load_input(out: &mut [u8]) -> Got
+pub fn load_input(rt: &(impl Input + Eprint), out: &mut [u8]) -> Got
     ensures { gotten result ≤ length out.new }
 {
-    let got = fill(STDIN_FILENO, out);
-    if let Got::Nothing = got {
-        os::fail(b"standard input");
+    match fill(&mut rt.reader(), out) {
+        Ok(n) => Got::Bytes(n),
+        Err(error) => nothing(rt, b"standard input", &error),
     }
-    got
+}
+
+fn length_of(rt: &impl Files, path: &[u8], piece: &mut [u8]) -> io::Result<usize>
+    requires { length piece.old ≤ 65536 }
+{
+    count(&mut open(rt, path)?, piece)
 }
 
 // A file's length.
-pub fn measure(path: &[u8], piece: &mut [u8]) -> Got
+pub fn measure(rt: &(impl Files + Eprint), path: &[u8], piece: &mut [u8]) -> Got
     requires { length piece.old ≤ 65536 }
 {
-    let fd = os::open_read(path);
-    if fd < 0 {
-        os::fail(path);
-        return Got::Nothing;
+    match length_of(rt, path, piece) {
+        Ok(n) => Got::Bytes(n),
+        Err(error) => nothing(rt, path, &error),
     }
-    let got = count(fd, piece);
-    if let Got::Nothing = got {
-        os::fail(path);
-    }
-    libc::close(fd);
-    got
 }

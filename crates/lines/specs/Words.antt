@@ -1,6 +1,6 @@
 -- Words and the digits of a number between them, written over the front of a buffer.
 use Rattle.std.specs.Prelude.{ℕ, List, ◌++◌}
-use Rattle.io.specs.Digits.{last_digits, IsDigitCount}
+use Rattle.lines.specs.Digits.{last_digits, IsDigitCount}
 use Rattle.octets.specs.Run.{Wrote}
 
 -- the digits of n, no more than it takes, were written over the front of a buffer

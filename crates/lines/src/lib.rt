@@ -1,7 +1,9 @@
+#![tactic(auto)]
 // Words and numbers, as a line of text has them.
 ghost use Rattle.std.specs.Prelude.{◌+◌, ◌≤◌, length};
 ghost use Rattle.lines.specs.Words.{Number, Words};
 
+use itoa::Buffer;
 use octets::run;
 
 // The decimal digits of n.
@@ -9,10 +11,10 @@ fn put_number(out: &mut [u8], n: u64) -> usize
     requires { 20 ≤ length out.old }
     ensures { (result ≤ 20) × Number n out.old out.new result }
 {
-    let mut text = [0u8; 20];
-    let k = io::decimal(n, &mut text);
-    run::copy(out, &text[..k]);
-    k
+    let mut buffer = Buffer::new();
+    let text = buffer.format(n).as_bytes();
+    run::copy(out, text);
+    text.len()
 }
 
 // Words, the digits of n, and words.

@@ -2,17 +2,16 @@
 // changed byte to the last.
 ghost use Rattle.std.specs.Prelude.{◌≤◌, length};
 
-use libc::STDOUT_FILENO;
 use octets::number;
 
 // What stands before the changes: the word, four bytes of zeros, since nothing here could alter what is lent to be read, and how many
 // changes there are.
-pub fn put(word: u64, changes: u8) -> bool {
+pub fn put(rt: &impl Print, word: u64, changes: u8) -> bool {
     let mut bytes = [0u8; 13];
     number::put_be32(&mut bytes, 0, (word / 4294967296) as u32);
     number::put_be32(&mut bytes, 4, (word % 4294967296) as u32);
     bytes[12] = changes;
-    io::write_all(STDOUT_FILENO, &bytes)
+    rt.write_all(&bytes).is_ok()
 }
 
 // The first of n bytes that changed; 0 if none did.
@@ -45,7 +44,7 @@ fn past_change(before: &[u8], after: &[u8], from: usize, n: usize) -> usize
     end
 }
 
-fn put_changed(before: &[u8], after: &[u8]) -> bool
+fn put_changed(rt: &impl Print, before: &[u8], after: &[u8]) -> bool
     requires { (length before.now ≤ length after.now) × (length before.now ≤ 40000) }
 {
     let first = first_change(before, after, before.len());
@@ -53,13 +52,13 @@ fn put_changed(before: &[u8], after: &[u8]) -> bool
     let mut bytes = [0u8; 8];
     number::put_be32(&mut bytes, 0, first as u32);
     number::put_be32(&mut bytes, 4, (past - first) as u32);
-    io::write_all(STDOUT_FILENO, &bytes) & io::write_all(STDOUT_FILENO, &after[first..past])
+    rt.write_all(&bytes).is_ok() & rt.write_all(&after[first..past]).is_ok()
 }
 
 // What changed in a slice, which lies at the front of after and has room there.
-pub fn put_change(before: &[u8], after: &[u8; 40000]) -> bool {
+pub fn put_change(rt: &impl Print, before: &[u8], after: &[u8; 40000]) -> bool {
     if after.len() < before.len() {
         return false;
     }
-    put_changed(before, after)
+    put_changed(rt, before, after)
 }
