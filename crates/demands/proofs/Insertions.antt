@@ -1,6 +1,6 @@
 -- Demand 3: AVPs of unknown kinds put into a request after its first AVP. Without M nothing changes; the first with M is B5001, unless a fault before it
 -- decides. What reading makes of them is proofs/Rows'.
-use Rattle.octets.specs.Standard.{ℕ, ◌+◌, ◌%◌, ◌≤◌, ◌<◌, List, ◌∷◌, ◌++◌, Bool, true, false, not, ◌||◌, true≢false, ◌≡◌}
+use Rattle.octets.specs.Standard.{ℕ, ◌%◌, ◌≤◌, ◌<◌, List, ◌∷◌, ◌++◌, Bool, true, false, not, ◌||◌, true≢false, ◌≡◌}
 use Rattle.octets.specs.Standard.{refl, sym, ap, ◌∙◌, length, eqb}
 use Rattle.diameter.specs.Walk.{Walk, avp, walk, some_avp}
 use Rattle.diameter.specs.Put.{glue, Piece, bytes_of, avps_of, Whole, All}

@@ -1,5 +1,5 @@
 -- "the items, each with 613 (from 1), 608, 609, 610, 625, 626": the vectors of an answer, "sent as stored".
-use Rattle.std.specs.Prelude.{ℕ, zero, suc, ◌+◌, List, [], ◌∷◌, ◌++◌, get_or, ltb}
+use Rattle.std.specs.Prelude.{ℕ, zero, suc, ◌+◌, List, [], ◌++◌, get_or, ltb}
 use Rattle.blocks.specs.Blocks.{block_of}
 use Rattle.pen.specs.Bytes.{copied_size, vendor_bytes, vendor_number, vendor_group, if_there}
 use Rattle.vectors.specs.declared.choice.Sent.{Sent}

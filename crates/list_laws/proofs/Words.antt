@@ -1,5 +1,5 @@
 -- How firm the promises of export and import are: they leave one outcome for each input, and out of the word the caller reads what came of it.
-use Rattle.octets.specs.Standard.{ℕ, zero, suc, ◌+◌, ◌*◌, ◌<◌, ◌≤◌, Bool, true, false, cond, ◌≡◌, refl, sym, ◌∙◌, ap, ◌≢◌, arith, eqb, ltb, eq-eqb, ne_eqb}
+use Rattle.octets.specs.Standard.{ℕ, zero, suc, ◌*◌, ◌<◌, ◌≤◌, Bool, true, false, cond, ◌≡◌, refl, sym, ◌∙◌, ap, ◌≢◌, arith, eqb, ltb, eq-eqb, ne_eqb}
 use Rattle.octets.specs.Standard.{le-ltb, List, ◌++◌, length, length-append, take, drop}
 use Rattle.octets.specs.Run.{over}
 use Rattle.octets.proofs.Numbers.{Bytes}

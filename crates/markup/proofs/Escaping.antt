@@ -1,5 +1,5 @@
 -- What escaping a name leaves true: it is read back, nothing in it stands bare, and it is at most six times as long.
-use Rattle.octets.specs.Standard.{ℕ, ◌+◌, ◌*◌, ◌≤◌, Bool, true, false, ◌≡◌, refl, ap, List, [], ◌∷◌, ◌++◌, arith, eqb, length}
+use Rattle.octets.specs.Standard.{ℕ, ◌*◌, ◌≤◌, Bool, true, false, ◌≡◌, refl, ap, List, [], ◌∷◌, ◌++◌, arith, eqb, length}
 use Rattle.octets.specs.Standard.{length-append, eqb-true}
 use Rattle.markup.specs.Escapes.{escapes, escape_by, escape_of, escaped, begins, read_by, unescaped_from, unescaped, is_markup, begins_escape, bare_at, none_bare}
 

@@ -1,7 +1,7 @@
 -- A name is escaped byte by byte.
 use Rattle.octets.specs.Standard.{ℕ, ◌+◌, ◌-◌, ◌≤◌, ◌<◌, ◌≡◌, refl, ap, List, [], ◌∷◌, ◌++◌, arith, add-one, length, get_or, drop, length-append, length-take}
 use Rattle.octets.specs.Standard.{length-drop, set, drop-cons, drop_of_length-le, ne_eqb, mid_of, put_mid}
-use Rattle.octets.specs.Run.{over, Wrote}
+use Rattle.octets.specs.Run.{Wrote}
 use Rattle.octets.proofs.Writes.{Going, going_more, going_end, over_sets}
 use Rattle.markup.specs.Escapes.{escapes, escape_by, escape_of, escaped}
 use Rattle.markup.proofs.Escaping.{escape_other, escape_least}

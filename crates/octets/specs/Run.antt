@@ -1,5 +1,5 @@
 -- Runs of bytes: zeros in a list, a name in its field, bytes written over the front of a buffer.
-use Rattle.std.specs.Prelude.{◌≡◌, ℕ, zero, suc, ◌+◌, ◌-◌, ◌<◌, ◌≤◌, Bool, List, ◌++◌, length, drop, set, nat_eq, slice_index, slice_set}
+use Rattle.std.specs.Prelude.{◌≡◌, ℕ, zero, suc, ◌+◌, ◌-◌, ◌<◌, ◌≤◌, Bool, List, ◌++◌, length, drop, nat_eq, slice_index, slice_set}
 use Rattle.octets.specs.All.{all_below}
 
 -- the n bytes from a place are all zero; the bytes from one place up to another

@@ -11,7 +11,7 @@ use Rattle.reading.specs.declared.Ruled.{Ruled}
 use Rattle.reading.specs.declared.Ruled.TheVariants.{Taken, Skipped, Fault}
 use Rattle.reading.specs.declared.Use.{Use}
 use Rattle.reading.specs.declared.Use.TheVariants.{Unknown, Unnamed, Needed, Optional, Repeated, Several}
-use Rattle.reading.specs.Kinds.{kinds, kind_of, row_of, use_of}
+use Rattle.reading.specs.Kinds.{kind_of, row_of, use_of}
 use Rattle.reading.specs.Contents.{plain_fault}
 use Rattle.reading.specs.Groups.{group_fault}
 

@@ -1,5 +1,5 @@
 -- Which records an effect reaches: whole sets, each of them once, and never the header.
-use Rattle.octets.specs.Standard.{ℕ, ◌<◌, ◌≤◌, Bool, true, false, ◌||◌, or-false, or_assoc, or-true, ◌≡◌, refl, sym, ap, ◌∙◌, List, [], ◌∷◌, ◌++◌}
+use Rattle.octets.specs.Standard.{ℕ, ◌<◌, ◌≤◌, Bool, true, false, ◌||◌, or-false, or_assoc, or-true, ◌≡◌, refl, sym, ◌∙◌, List, [], ◌∷◌, ◌++◌}
 use Rattle.octets.specs.Standard.{arith, eqb, eqb-true, ne_eqb}
 use Rattle.octets.specs.Number.{be16_at}
 use Rattle.octets.specs.Run.{zero_between}
@@ -15,9 +15,9 @@ use Rattle.blocks.specs.Blocks.{block_of}
 use Rattle.table.specs.SoundTable.{SoundTable}
 use Rattle.table.proofs.Sound.{sound_tests}
 use Rattle.blocks.specs.Changed.{is_one}
-use Rattle.rewrite.specs.Change.{after_of, reaches}
+use Rattle.rewrite.specs.Change.{reaches}
 use Rattle.rewrite.proofs.Sound.{keeping_sets}
-use Rattle.rewrite.proofs.Tables.{Closed, Keeping, after_choice}
+use Rattle.rewrite.proofs.Tables.{Closed, Keeping}
 
 -- Two answers are the same if each follows from the other.
 pub both_ways : (x y : Bool) → (x ≡ true → y ≡ true) → (y ≡ true → x ≡ true) → x ≡ y

@@ -1,5 +1,5 @@
 -- What a row's word says of records and vectors: some request altered one, or none did and the files are as they came. And rows that alter nothing.
-use Rattle.octets.specs.Standard.{ℕ, zero, suc, ◌+◌, ◌*◌, ◌≤◌, ◌<◌, List, [], ◌∷◌, ◌++◌, Bool, true, false, cond, not, ◌||◌, or-true, true≢false, ◌≡◌, refl}
+use Rattle.octets.specs.Standard.{ℕ, zero, suc, ◌*◌, ◌≤◌, ◌<◌, List, [], ◌∷◌, ◌++◌, Bool, true, false, cond, not, ◌||◌, or-true, true≢false, ◌≡◌, refl}
 use Rattle.octets.specs.Standard.{sym, ap, ◌∙◌, arith, length, eqb, eqb-true, eqb-false, ltb-false}
 use Rattle.octets.specs.Name.{same}
 use Rattle.octets.proofs.Names.{same_eq}

@@ -1,5 +1,5 @@
 -- One request of a row in its place: its word, its answer, and what the theorems about calls say of it.
-use Rattle.octets.specs.Standard.{ℕ, ◌+◌, ◌*◌, ◌≤◌, List, [], ◌∷◌, ◌++◌, append_assoc, true, false, none, ◌≡◌, refl}
+use Rattle.octets.specs.Standard.{ℕ, ◌*◌, ◌≤◌, List, [], ◌∷◌, ◌++◌, append_assoc, true, false, none, ◌≡◌, refl}
 use Rattle.octets.specs.Standard.{sym, ap, ◌∙◌, ◌≢◌, length, take, drop, take_at, drop_at, eq-eqb, le-ltb, true≢false, and-false}
 use Rattle.counting.specs.Words.{long_bytes, words_bytes}
 use Rattle.counting.proofs.Longs.{long_length, bytes_length}

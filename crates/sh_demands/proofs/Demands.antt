@@ -23,7 +23,7 @@ use Rattle.requests.proofs.Sole.{Asks, read_identity}
 use Rattle.sh.specs.Tell.{denied}
 use Rattle.ndushavire_sh.specs.Lent.{Lent, lent, terms_in, dialect_in}
 use Rattle.ndushavire_sh.specs.Promise.{ShDecidePromise}
-use Rattle.ndushavire_sh.specs.Serve.{trials_of, told_of, answer_of, refused, answered, sh_serve}
+use Rattle.ndushavire_sh.specs.Serve.{trials_of, told_of, answer_of, answered, sh_serve}
 use Rattle.demands.specs.Call.{Exactly}
 use Rattle.demands.specs.Insertion.{request_of, Quiet, Inserted, keep, FirstMarked, fault_by, place_now, behind_row, Longer}
 use Rattle.demands.specs.Knowing.{kinds_by, is_among, kinds_of}

@@ -1,5 +1,5 @@
 -- Demand 3 for the Sh server: AVPs of kinds that it does not know put into a request after its first AVP.
-use Rattle.octets.specs.Standard.{ℕ, zero, suc, ◌+◌, ◌%◌, ◌≤◌, ◌<◌, List, [], ◌∷◌, ◌++◌, Bool, true, false, cond, not, ◌≡◌, refl, sym, ◌∙◌, arith}
+use Rattle.octets.specs.Standard.{ℕ, zero, suc, ◌+◌, ◌%◌, ◌≤◌, ◌<◌, List, [], ◌∷◌, ◌++◌, Bool, true, false, cond, ◌≡◌, refl, sym, ◌∙◌, arith}
 use Rattle.octets.specs.Standard.{eqb, zero-add, ne_eqb, length}
 use Rattle.table.specs.Area.{table_in, check_area}
 use Rattle.diameter.specs.Put.{glue, Piece, bytes_of, avps_of, Whole, All}

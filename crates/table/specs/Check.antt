@@ -1,5 +1,5 @@
 -- What the check of a table answers: the count of records, or the number of the first bad block.
-use Rattle.std.specs.Prelude.{ℕ, zero, suc, ◌+◌, ◌-◌, ◌*◌, Bool, true, false, cond, not, ◌&&◌, ◌||◌, List, length, ◌==◌, nat_le}
+use Rattle.std.specs.Prelude.{ℕ, suc, ◌+◌, ◌-◌, ◌*◌, Bool, true, false, cond, not, ◌&&◌, ◌||◌, List, length, ◌==◌, nat_le}
 use Rattle.octets.specs.All.{all_below}
 use Rattle.octets.specs.Name.{order_of}
 use Rattle.octets.specs.declared.name.Order.{Order}
@@ -11,7 +11,7 @@ use Rattle.record.specs.declared.header.Header.{Header}
 use Rattle.blocks.specs.Blocks.{block_of, first_bad}
 use Rattle.table.specs.Named.{public_at}
 use Rattle.blocks.specs.declared.Checked.{Checked}
-use Rattle.blocks.specs.declared.Checked.TheVariants.{Sound, Bad}
+use Rattle.blocks.specs.declared.Checked.TheVariants.{Bad}
 
 abbrev pub is_less : Order → Bool
 is_less Less = true

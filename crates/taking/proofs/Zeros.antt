@@ -1,5 +1,5 @@
 -- An area that is zeroed from block 0 up, and one in which chosen blocks are zeroed.
-use Rattle.octets.specs.Standard.{ℕ, ◌+◌, ◌*◌, ◌/◌, ◌<◌, ◌≤◌, Bool, true, false, and-false, cond, ◌≡◌, refl, sym, ◌∙◌, ap, ◌⊎◌, inl, inr, List, ◌++◌, arith}
+use Rattle.octets.specs.Standard.{ℕ, ◌+◌, ◌*◌, ◌/◌, ◌<◌, ◌≤◌, Bool, true, false, and-false, cond, ◌≡◌, refl, sym, ◌∙◌, ap, ◌⊎◌, inl, inr, List, arith}
 use Rattle.octets.specs.Standard.{leb, ltb, ltb-true, ltb-false, lit<, length, get_or, drop, replicate, length-replicate, get_or-replicate, get_or-take, get_or-drop}
 use Rattle.record.specs.Fields.{count_of, issue_of}
 use Rattle.record.specs.HeaderBlock.{sound_header}

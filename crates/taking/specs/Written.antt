@@ -1,5 +1,5 @@
 -- An area of which only some blocks are written: "power or link may go after any block". A block is written whole.
-use Rattle.std.specs.Prelude.{ℕ, suc, ◌+◌, ◌*◌, ◌/◌, Bool, cond, List, ◌++◌, ◌≡◌, length, take, drop, replicate}
+use Rattle.std.specs.Prelude.{ℕ, suc, ◌*◌, ◌/◌, Bool, cond, List, ◌++◌, ◌≡◌, length, take, drop, replicate}
 use Rattle.record.specs.Fields.{count_of}
 use Rattle.blocks.specs.Blocks.{block_of, table_of}
 use Rattle.blocks.specs.Changed.{changed_in, changed_all}
