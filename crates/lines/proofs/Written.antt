@@ -1,6 +1,6 @@
 -- Words and digits, written one after the other.
-use Rattle.octets.specs.Standard.{ℕ, ◌+◌, ◌-◌, ◌^◌, ◌≤◌, ◌<◌, Bool, true, false, ◌≡◌, refl, List, append_assoc, arith, pow-le-pow_right, leb}
-use Rattle.octets.specs.Standard.{lit<, length, leb-true, leb-false}
+use Rattle.octets.specs.Standard.{ℕ, ◌+◌, ◌-◌, ◌^◌, ◌≤◌, ◌<◌, Bool, true, false, ◌≡◌, refl, sym, List, append_assoc, arith, pow-le-pow_right, leb}
+use Rattle.octets.specs.Standard.{lit<, length, take, leb-true, leb-false}
 use Rattle.lines.specs.Digits.{last_digits, IsDigitCount}
 use Rattle.octets.specs.Run.{Wrote}
 use Rattle.octets.proofs.Writes.{lent, back, then, named}
@@ -20,10 +20,18 @@ twenty_places n k f h = go (leb k 20) refl
         let q : 10 ^ (k - 1) ≤ n = f.2 (omega arith) in
         absurd (omega arith)
 
--- The text of a number that was written over the front of a buffer.
-pub number_wrote : (n : ℕ) (text : List ℕ) {b xs : List ℕ} → n < 18446744073709551616 → text ≡ decimal n → Wrote text b xs (length text)
+pub number_room : (n k : ℕ) (text out : List ℕ) → IsDigitCount 10 1 n k → n < 18446744073709551616 → k ≡ length (take k text) → 20 ≤ length out
+    → length (take k text) ≤ length out
+number_room n k text out f h e r = omega (arith, twenty_places n k f h)
+
+pub number_wrote : (n k : ℕ) (text : List ℕ) {b xs : List ℕ} → IsDigitCount 10 1 n k → k ≡ length (take k text) → take k text ≡ last_digits 10 k n
+    → Wrote (take k text) b xs (length (take k text)) → Number n b xs k
+number_wrote n k text f e d w = record { fewest = f; wrote = named d (sym e) w }
+
+-- The library's text of a number, written over the front of a buffer.
+pub decimal_wrote : (n : ℕ) (text : List ℕ) {b xs : List ℕ} → n < 18446744073709551616 → text ≡ decimal n → Wrote text b xs (length text)
     → Number n b xs (length text)
-number_wrote n text h e w =
+decimal_wrote n text h e w =
     let s : Spelled n text = rw e (decimal_spelled n h) in
     record { fewest = s.fewest; wrote = named s.digits refl w }
 
