@@ -1,6 +1,6 @@
 -- The three demands, as theorems about `serve`: what a call comes to, and the area, the vectors and the buffer afterwards, for anything lent.
 -- A table is lent at the front of a working area (`a.table`), which may be longer (02 [8]): `table_in` is the table there, by the count in block 0, and
--- `table_only a` is what is lent, with that table alone. Bytes past the table stay, and do not matter (`promised-past`, `promised-alike`).
+-- `table_only a` is what is lent, with that table alone. Bytes past the table stay, and do not matter (`promised_past`, `promised_alike`).
 -- What the other words below mean is in specs/Call, specs/Frame and specs/Insertion.
 use Rattle.octets.specs.Standard.{ℕ, ◌/◌, ◌%◌, ◌<◌, ◌≤◌, List, ◌∷◌, some, true, false, ◌≡◌, ap, ◌∙◌, sym, ◌⊎◌, ◌≢◌, arith, length, get_or, take, drop}
 use Rattle.octets.specs.Run.{over}

@@ -1,5 +1,5 @@
 -- 02 [13], "A plain engine beside the quick one.", about the promise that `ndushavire_plain` and `ndushavire_decide` both make, for anything lent. How it reads
--- is in plain_reading: `plain-reads`, `places-most`.
+-- is in plain_reading: `plain_reads`, `places_most`.
 use Rattle.octets.specs.Standard.{ℕ, ◌≡◌, List}
 use Rattle.calling.specs.Lent.{Lent}
 use Rattle.ndushavire.specs.Promise.{DecidePromise}

@@ -41,7 +41,7 @@ use Rattle.demands.proofs.NamedTwice as named
 use Rattle.demands.proofs.Together as together
 use Rattle.demands.proofs.Unable as unable
 
--- A result here (`result_of`) is that of the decision which `serve` answers with where it does not refuse: proofs/Demands, `demand-2`.
+-- A result here (`result_of`) is that of the decision which `serve` answers with where it does not refuse: proofs/Demands, `demand_2`.
 -- "Document 01 rejects every barred identity in a UAR. The trade's rule is softer: one with a non-barred identity in its implicit set may go on.": it is not
 -- rejected, and where the User-Name is its record's, the answer carries what it does for an identity that is known (`true`) and not barred (`false`)
 module _ (a : Lent) (count : ℕ) (sound : check_of (table_only a) ≡ Sound count) (uar : command_of a.request ≡ 300) (seen : Seen)

@@ -131,16 +131,16 @@ module _ (x : Lent) (count : ℕ) (sound : check_of x ≡ Sound count) where
   of_area P p = rw (only_sound x count sound) p
 
 -- A row is whole if a test says so of each
-unfoldable pub is_whole_lem : Piece → Bool
-is_whole_lem q = sound q.avp && (eqb (avp_len q.avp) (length q.avp) && eqb (length (q.avp ++ q.pad)) (padded (length q.avp)))
+unfoldable pub is_whole : Piece → Bool
+is_whole q = sound q.avp && (eqb (avp_len q.avp) (length q.avp) && eqb (length (q.avp ++ q.pad)) (padded (length q.avp)))
 
 unfoldable pub all_whole : List Piece → Bool
 all_whole [] = true
-all_whole (q ∷ qs) = is_whole_lem q && all_whole qs
+all_whole (q ∷ qs) = is_whole q && all_whole qs
 
-is_whole : (q : Piece) → is_whole_lem q ≡ true → Whole q
-unfolding is_whole_lem
-is_whole q e =
+is_whole_lem : (q : Piece) → is_whole q ≡ true → Whole q
+unfolding is_whole
+is_whole_lem q e =
     let r = and_right (sound q.avp) _ e in
     record {
       right = and_left (sound q.avp) _ e;
@@ -151,7 +151,7 @@ is_whole q e =
 pub all_whole_lem : (qs : List Piece) → all_whole qs ≡ true → All Whole qs
 unfolding all_whole
 all_whole_lem [] e = tt
-all_whole_lem (q ∷ qs) e = (is_whole q (and_left (is_whole_lem q) _ e), all_whole_lem qs (and_right (is_whole_lem q) _ e))
+all_whole_lem (q ∷ qs) e = (is_whole_lem q (and_left (is_whole q) _ e), all_whole_lem qs (and_right (is_whole q) _ e))
 
 -- a row as it is
 unfoldable pub kept : {P : Piece → Type 0} (qs : List Piece) → Inserted P qs qs

@@ -19,7 +19,7 @@ use Rattle.demands.specs.Insertion.{request_of, Foreign, Quiet, Inserted, ending
 use Rattle.demands.proofs.Demands.{demand_2, demand_2_failure, demand_2_others, demand_2_bytes, demand_2_sound, demand_2_vectors, demand_3}
 use Rattle.demands.proofs.Demands.{demand_3_unmarked, demand_3_vectors, demand_3_marked}
 use Rattle.instances.proofs.Asked.{table, vectors, mar_head, session, application, common, sar, mar_own, mar_rest, mar, carded, comes_to, plain}
-use Rattle.instances.proofs.Asked.{loud, all, is_whole_lem, all_whole, all_whole_lem, kept, of_area}
+use Rattle.instances.proofs.Asked.{loud, all, is_whole, all_whole, all_whole_lem, kept, of_area}
 use Rattle.instances.proofs.Calls.{sound_table, sound_vectors, sound_area}
 
 -- The MAR for two vectors at the server `z` is a success: record 1 has that name and pending then, in the state that it had, and the one vector of that
@@ -93,7 +93,7 @@ unfolding all quietly
 put_quietly = keep _ (put plain quiet_plain_mar (kept (common ++ mar_own z 2)))
 
 met_3_spent : serve (carded (request_of mar_head (session ∷ quietly) [])) ≡ comes_to 0 challenged_table spent_vectors (challenges 1 (item 1 1))
-unfolding all is_whole_lem all_whole quietly
+unfolding all is_whole all_whole quietly
 met_3_spent =
     demand_3_unmarked mar_head refl session (mar_rest z 2) quietly (all_whole_lem (session ∷ mar_rest z 2) refl) [] refl (lit≤ tt) (carded []) put_quietly
     ∙ ap (placed (place_now (keep session put_quietly))) challenge
@@ -119,18 +119,18 @@ marked_mar =
     }
 
 met_3_vectors : (serve (carded (request_of mar_head (session ∷ loudly) []))).vectors ≡ vectors
-unfolding all is_whole_lem all_whole loudly
+unfolding all is_whole all_whole loudly
 met_3_vectors =
     demand_3_vectors mar_head refl session (mar_rest z 2) loudly (all_whole_lem (session ∷ mar_rest z 2) refl) [] refl (lit≤ tt) (carded []) marked_mar
 
 met_3_unsent : serve (carded (request_of mar_head (session ∷ loudly) [])) ≡ comes_to 212 table vectors (reply 303 (number_bytes 268 5001) (failed loud.avp))
-unfolding all table_in size_in is_whole_lem all_whole loudly marked_mar
+unfolding all table_in size_in is_whole all_whole loudly marked_mar
 met_3_unsent =
     demand_3_marked mar_head refl session (mar_rest z 2) loudly (all_whole_lem (session ∷ mar_rest z 2) refl) [] refl (lit≤ tt) (carded []) marked_mar
     refl taken
 
 longer_mar : Longer (under_cx 3588 0) (mar z 2) (request_of mar_head (session ∷ loudly) [])
-unfolding all is_whole_lem all_whole loudly
+unfolding all is_whole all_whole loudly
 longer_mar =
     record {
       cut =

@@ -28,7 +28,7 @@ use Rattle.demands.specs.Place.{first, past_taken, blaming}
 use Rattle.demands.specs.Insertion.{request_of, Quiet, Inserted, keep, put, place_now, placed}
 use Rattle.demands.proofs.Demands.{demand_3_unmarked}
 use Rattle.demands.proofs.Wanting.{beyond_holds, called_holds}
-use Rattle.instances.proofs.Asked.{table, removed, head, session, rest, sar, comes, plain, loud, all, is_whole_lem, all_whole, all_whole_lem, kept, of_area}
+use Rattle.instances.proofs.Asked.{table, removed, head, session, rest, sar, comes, plain, loud, all, is_whole, all_whole, all_whole_lem, kept, of_area}
 use Rattle.instances.proofs.Calls.{sound_table}
 use Rattle.demands.proofs.Features as features
 
@@ -173,7 +173,7 @@ put_plain : Inserted (Quiet (dialect_of (under_cx 3588 5) head)) (hope ∷ rest 
 put_plain = put plain quiet_plain (keep hope (put plain quiet_plain (kept (rest s 5))))
 
 met_3_features : serve (asked (request_of head (session ∷ plain ∷ hope ∷ plain ∷ rest s 5) [])) ≡ comes removed (answer (number_bytes 268 2001) (own_features 5))
-unfolding all is_whole_lem all_whole members hope with hoping
+unfolding all is_whole all_whole members hope with hoping
 met_3_features =
     demand_3_unmarked head refl session (hope ∷ rest s 5) (plain ∷ hope ∷ plain ∷ rest s 5) (all_whole_lem (session ∷ hope ∷ rest s 5) refl) [] refl (lit≤ tt)
     (asked []) put_plain

@@ -21,7 +21,7 @@ use Rattle.demands.specs.Knowing.{is_among, kinds_of_cx, kinds_of}
 use Rattle.demands.proofs.Demands.{demand_3, demand_3_unmarked, demand_3_table, demand_3_marked, demand_3_fault, demand_3_cases, demand_3_any}
 use Rattle.demands.proofs.Demands.{demand_3_kinds, demand_3_others}
 use Rattle.instances.proofs.Asked.{table, removed, vendor, head_of, head, session, application, common, own, rest, sar, asked, comes_to, comes, blamed}
-use Rattle.instances.proofs.Asked.{plain, zero_vendor, loud, all, is_whole_lem, all_whole, all_whole_lem, kept, of_area}
+use Rattle.instances.proofs.Asked.{plain, zero_vendor, loud, all, is_whole, all_whole, all_whole_lem, kept, of_area}
 use Rattle.instances.proofs.Calls.{sound_table, removed_so}
 
 foreign_plain : Foreign (dialect_of (under_cx 3588 0) head) plain
@@ -55,7 +55,7 @@ put_thrice =
     (keep _ (keep _ (keep _ (keep _ (keep _ (keep _ (keep _ (keep _ (put plain quiet_plain ending)))))))))))
 
 met_3_unmarked : serve (asked (request_of head (session ∷ thrice) [])) ≡ comes removed (answer (number_bytes 268 2001) [])
-unfolding all is_whole_lem all_whole thrice
+unfolding all is_whole all_whole thrice
 met_3_unmarked =
     demand_3_unmarked head refl session (rest s 5) thrice (all_whole_lem (session ∷ rest s 5) refl) [] refl (lit≤ tt) (asked []) put_thrice
     ∙ ap (placed (place_now (keep session put_thrice))) removed_so
@@ -78,7 +78,7 @@ unfolding all once
 put_once = keep _ (put plain quiet_plain (kept (common ++ own s 5)))
 
 met_3_tail : serve (asked (request_of head (session ∷ once) cut)) ≡ blamed 188 (answer (number_bytes 268 5014) (failed (head_bytes 1 0 8)))
-unfolding all is_whole_lem all_whole cut once put_once put_before kept
+unfolding all is_whole all_whole cut once put_once put_before kept
 met_3_tail =
     demand_3_unmarked head refl session (rest s 5) once (all_whole_lem (session ∷ rest s 5) refl) cut refl (lit≤ tt) (asked []) put_once
     ∙ ap (placed (place_now (keep session put_once))) cut_answered
@@ -114,7 +114,7 @@ unsupported_answer place = blamed place (answer (number_bytes 268 5001) (failed 
 
 -- type 12 is bad content, B5004. The marked one before it: B5001, and the table is as it was
 met_3_marked : serve (asked (request_of head (session ∷ application ∷ common ++ (loud ∷ own s 12)) [])) ≡ unsupported_answer 112
-unfolding all table_in size_in is_whole_lem all_whole unsupported_answer marked_at
+unfolding all table_in size_in is_whole all_whole unsupported_answer marked_at
 met_3_marked =
     demand_3_marked head refl session (rest s 12) (application ∷ common ++ (loud ∷ own s 12)) (all_whole_lem (session ∷ rest s 12) refl) [] refl (lit≤ tt)
     (asked [])
@@ -147,7 +147,7 @@ wrong_type_lem = serve_sound (asked (sar s 12)) 2 sound_table ∙ come (asked (s
 
 met_3_fault : serve (asked (request_of head (session ∷ behind_it ++ (loud ∷ [])) []))
     ≡ blamed 156 (answer (number_bytes 268 5004) (failed (vendor_head 614 16 ++ word_bytes 12)))
-unfolding all is_whole_lem all_whole behind_it marked_behind put_before kept
+unfolding all is_whole all_whole behind_it marked_behind put_before kept
 met_3_fault =
     demand_3_fault head refl session (rest s 12) (behind_it ++ (loud ∷ [])) (all_whole_lem (session ∷ rest s 12) refl) [] refl (lit≤ tt) (asked [])
     marked_behind refl
@@ -161,19 +161,19 @@ many : List Piece
 many = application ∷ common ++ (vendor 601 (0x62 ∷ []) ∷ own s 1)
 
 met_3_missing : serve (asked (request_of head (session ∷ lacking624 ++ (loud ∷ [])) [])) ≡ unsupported_answer 160
-unfolding all table_in size_in is_whole_lem all_whole unsupported_answer marked_at lacking624
+unfolding all table_in size_in is_whole all_whole unsupported_answer marked_at lacking624
 met_3_missing =
     demand_3_marked head refl session lacking624 (lacking624 ++ (loud ∷ [])) (all_whole_lem (session ∷ lacking624) refl) [] refl (lit≤ tt) (asked [])
     (marked_at lacking624 []) refl (let_pass (request_of head (session ∷ lacking624) []) refl)
 
 met_3_many : serve (asked (request_of head (session ∷ many ++ (loud ∷ [])) [])) ≡ unsupported_answer 192
-unfolding all table_in size_in is_whole_lem all_whole unsupported_answer marked_at many
+unfolding all table_in size_in is_whole all_whole unsupported_answer marked_at many
 met_3_many =
     demand_3_marked head refl session many (many ++ (loud ∷ [])) (all_whole_lem (session ∷ many) refl) [] refl (lit≤ tt) (asked []) (marked_at many []) refl
     (let_pass (request_of head (session ∷ many) []) refl)
 
 met_3_table : (serve (asked (request_of head (session ∷ many ++ (loud ∷ [])) []))).table ≡ table
-unfolding all is_whole_lem all_whole many
+unfolding all is_whole all_whole many
 met_3_table = demand_3_table head refl session many (many ++ (loud ∷ [])) (all_whole_lem (session ∷ many) refl) [] refl (lit≤ tt) (asked []) (marked_at many [])
 
 -- the SAR as bytes is such a header and row
@@ -183,7 +183,7 @@ met_3_any = demand_3_any (sar s 5) (λ i. (are_bytes (sar s 5) refl i).fits) ref
 
 -- In one sentence: the SAR of type 5 with two unmarked ones put in, and with a marked one behind them.
 cut_sar : Cut (sar s 5)
-unfolding all is_whole_lem all_whole
+unfolding all is_whole all_whole
 cut_sar =
     record {
       head = head;

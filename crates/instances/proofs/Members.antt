@@ -16,7 +16,7 @@ use Rattle.demands.specs.Sets.{Removes, OneFewer, Member}
 use Rattle.demands.proofs.Sets.{like_naming_one}
 use Rattle.worked_examples.proofs.Computed.{come, roomy, no_vectors}
 use Rattle.worked_examples.proofs.Sample.{room, answer, s}
-use Rattle.instances.proofs.Asked.{vendor, head, session, application, common, comes, all, is_whole_lem, all_whole, all_whole_lem}
+use Rattle.instances.proofs.Asked.{vendor, head, session, application, common, comes, all, is_whole, all_whole, all_whole_lem}
 use Rattle.sets_example.proofs.Behind.{within, in_front, sound_front}
 use Rattle.sets_example.proofs.Family as family
 
@@ -69,7 +69,7 @@ short = lit≤ tt
 
 -- without `c`, which comes last, and without `a`, which comes first
 without_c : OneFewer (removing three) (removing (named 0x61 ∷ named 0x62 ∷ []))
-unfolding all is_whole_lem all_whole named front own removing
+unfolding all is_whole all_whole named front own removing
 without_c =
     record {
       head = head;
@@ -120,7 +120,7 @@ met_last =
     ∙ serve_sound (asked (removing (named 0x61 ∷ named 0x62 ∷ []))) 3 lines_sound ∙ two_comes
 
 without_a : OneFewer (removing three) (removing (named 0x62 ∷ named 0x63 ∷ []))
-unfolding all is_whole_lem all_whole named front own removing
+unfolding all is_whole all_whole named front own removing
 without_a =
     record {
       head = head;

@@ -21,7 +21,7 @@ use Rattle.demands.specs.Peers.{by_peer, vendor_ids, OneVendor, ComesTo, ToldApa
 use Rattle.demands.proofs.Demands.{demand_3_unmarked}
 use Rattle.demands.proofs.Editions.{one_vendor, one_says}
 use Rattle.demands.proofs.Peers.{one_vendor_lem, second_told, several_pass, peers_differ, peer_exactly, peer_refused}
-use Rattle.instances.proofs.Asked.{removed, base, head, session, common, own, sar, asked, comes, blamed, plain, all, is_whole_lem, all_whole, all_whole_lem}
+use Rattle.instances.proofs.Asked.{removed, base, head, session, common, own, sar, asked, comes, blamed, plain, all, is_whole, all_whole, all_whole_lem}
 use Rattle.instances.proofs.Asked.{kept, of_area}
 use Rattle.instances.proofs.Calls.{sound_table}
 
@@ -103,7 +103,7 @@ put_plain = put plain quiet_plain (kept (two_ids ∷ common ++ own s 5))
 
 met_3_newer : serve (by_peer (asked (request_of head (session ∷ plain ∷ two_ids ∷ common ++ own s 5) [])) 6733)
     ≡ blamed 44 (answer (number_bytes 268 5009) (failed two_ids.avp))
-unfolding all is_whole_lem all_whole two_ids doubled put_plain put_before kept
+unfolding all is_whole all_whole two_ids doubled put_plain put_before kept
 met_3_newer =
     demand_3_unmarked head refl session (two_ids ∷ common ++ own s 5) (plain ∷ two_ids ∷ common ++ own s 5)
     (all_whole_lem (session ∷ two_ids ∷ common ++ own s 5) refl) [] refl (lit≤ tt) (by_peer (asked []) 6733) put_plain

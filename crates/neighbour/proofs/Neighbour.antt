@@ -21,7 +21,7 @@ use Rattle.neighbour.proofs.Before.{row_answered, row_sound, row_seen}
 -- LIR gets the same answer bytes", of the same length, and the same place of the AVP at fault. The vector files, the buffers, the areas past the count, the
 -- profile files apart from the bytes shown, and all other records may differ. It speaks of answers alone: the tables that the two calls leave may differ
 -- where they differed before.
--- Two of these conditions could be left out, and are the document's: that the tables are sound follows from both calls being answered (`answered-sound`), and
+-- Two of these conditions could be left out, and are the document's: that the tables are sound follows from both calls being answered (`answered_sound`), and
 -- no answer shows the edition (as `seen_alike/proofs/Moved` says of a move). Within the others some bytes show in no answer: a record's pending bit, and the
 -- profile bytes of a record that is mine and is not asked about. The order is that of the names in every sound table.
 pub neighbours_line : (x y : Lent) (count many : ℕ) → check_area x.table (length x.profile) ≡ Sound count

@@ -256,7 +256,7 @@ module _ (x : Lent) (a : List ℕ) where
   report_vectors = kept.report_vectors (table_only x) a
 
   -- In an area with a sound table at its front only state, pending, server name and check word of records change, in every block of it (that those past the
-  -- count stay whole says `report-behind`).
+  -- count stay whole says `report_behind`).
   pub report_kept : (count : ℕ) → check_area x.table (length x.profile) ≡ Sound count → (k i : ℕ) → i < 512 → alterable i ≡ false
       → get_or (block_of (reported x a).table k) i 0 ≡ get_or (block_of x.table k) i 0
   report_kept = over.over_bytes x a

@@ -240,7 +240,7 @@ module _ (x : Lent) (ws : List ℕ) where
       (s.0, ap (λ (v : List ℕ). used_at v k) row_leaves_vectors ∙ s.1)
 
   -- THE DEMANDS hold of each request: it is a call, `serve (lent_to x p)`, and the theorems about calls are about any. Of demand 1: its word is read back out
-  -- of the 8 bytes (`row_word`) as a call's is; its number is 0, 2 to 6, or 12, never 1, for there was room; ..
+  -- of the 8 bytes (`row_word_lem`) as a call's is; its number is 0, 2 to 6, or 12, never 1, for there was room; ..
   module _ (p : InTurn (served_of x ws)) where
     pub row_demand_1 : Reads (serve (lent_to x p)).call (call_word (serve (lent_to x p)).call)
     row_demand_1 = demand_1_word (lent_to x p)
@@ -324,7 +324,7 @@ module _ (x : Lent) (one : OneRequest x.request) (ws : List ℕ) (room : 36864 �
   )
 
 -- TWO ROWS END TO END, the first ended by 0, are one: the second is lent what the first left, its answers and words from behind what the first wrote. Their
--- words together must not pass the limit, which one row keeps (`row-limit`).
+-- words together must not pass the limit, which one row keeps (`row_limit`).
 pub row_joined : (x : Lent) (ws more : List ℕ) → (rowed x ws).number ≡ 0
     → (rowed x ws).served + (rowed (going_on x ws more) (words_left x ws)).served ≤ 4294967295
     → rowed (asking x (x.request ++ more)) ws ≡ joined x ws (rowed (going_on x ws more) (words_left x ws))

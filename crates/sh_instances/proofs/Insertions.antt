@@ -15,7 +15,7 @@ use Rattle.ndushavire_sh.specs.Serve.{Served, sh_serve}
 use Rattle.demands.specs.Insertion.{message, request_of, Foreign, Quiet, Inserted, ending, keep, put, put_before, place_now, FirstMarked, Cut, Longer}
 use Rattle.demands.specs.Insertion.{fault_by, behind_row, Mark, first_mark}
 use Rattle.demands.specs.Knowing.{is_among, kinds_of}
-use Rattle.instances.proofs.Asked.{base, vendor, session, common, is_whole_lem, all_whole, all_whole_lem, kept}
+use Rattle.instances.proofs.Asked.{base, vendor, session, common, is_whole, all_whole, all_whole_lem, kept}
 use Rattle.sh_example.proofs.Computed.{held, roomy, area, area_sound, asking, served, leaves}
 use Rattle.sh_example.proofs.Sample.{reply, opened}
 use Rattle.sh_example.proofs.Servers.{state_data}
@@ -144,21 +144,21 @@ unfolding all with_quiet
 put_quiet top reference = keep _ (keep _ (keep _ (keep _ (keep _ (put quiet (is_quiet top) (kept (own reference)))))))
 
 met_3_unmarked : sh_serve (asking (asks head (with_quiet right))) ≡ leaves 240 0 (reply (number_bytes 268 2001) (state_data 0x31))
-unfolding all is_whole_lem all_whole with_quiet
+unfolding all is_whole all_whole with_quiet
 met_3_unmarked =
     sh_demand_3_unmarked head refl session (rest right) (with_quiet right) (all_whole_lem (session ∷ rest right) refl) [] refl (lit≤ tt) (asking [])
     (put_quiet head right)
     ∙ ap (placed (place_now (keep session (put_quiet head right)))) right_served
 
 met_3_moved : sh_serve (asking (asks head (with_quiet wide))) ≡ leaves 132 156 (reply (number_bytes 268 5014) (failed (vendor_head 703 12)))
-unfolding all is_whole_lem all_whole with_quiet put_quiet put_before kept
+unfolding all is_whole all_whole with_quiet put_quiet put_before kept
 met_3_moved =
     sh_demand_3_unmarked head refl session (rest wide) (with_quiet wide) (all_whole_lem (session ∷ rest wide) refl) [] refl (lit≤ tt) (asking [])
     (put_quiet head wide)
     ∙ ap (placed (place_now (keep session (put_quiet head wide)))) wide_served
 
 met_3_unspoken : sh_serve (asking (asks other_head (with_quiet right))) ≡ unspoken
-unfolding all is_whole_lem all_whole with_quiet
+unfolding all is_whole all_whole with_quiet
 met_3_unspoken =
     sh_demand_3_unmarked other_head refl session (rest right) (with_quiet right) (all_whole_lem (session ∷ rest right) refl) [] refl (lit≤ tt) (asking [])
     (put_quiet other_head right)
@@ -173,7 +173,7 @@ unfolding all
 let_pass = held (asking (asks head (rest wide))) roomy area_sound refl
 
 met_3_marked : sh_serve (asking (asks head (application ∷ common ++ (loud ∷ own wide)))) ≡ unsupported 112
-unfolding all is_whole_lem all_whole unsupported marked_at area
+unfolding all is_whole all_whole unsupported marked_at area
 met_3_marked =
     sh_demand_3_marked head refl session (rest wide) (application ∷ common ++ (loud ∷ own wide)) (all_whole_lem (session ∷ rest wide) refl) [] refl (lit≤ tt)
     (asking [])
@@ -199,7 +199,7 @@ marked_behind =
 
 met_3_fault : sh_serve (asking (asks head (with_quiet wide ++ (loud ∷ []))))
     ≡ leaves 132 156 (reply (number_bytes 268 5014) (failed (vendor_head 703 12)))
-unfolding all is_whole_lem all_whole with_quiet marked_behind put_quiet put_before kept
+unfolding all is_whole all_whole with_quiet marked_behind put_quiet put_before kept
 met_3_fault =
     sh_demand_3_fault head refl session (rest wide) (with_quiet wide ++ (loud ∷ [])) (all_whole_lem (session ∷ rest wide) refl) [] refl (lit≤ tt) (asking [])
     marked_behind refl
@@ -207,7 +207,7 @@ met_3_fault =
 
 -- .. and the header's: under command 300 the 602 is as unknown, but B3001 is given
 met_3_header : sh_serve (asking (asks other_head (application ∷ common ++ (loud ∷ own right)))) ≡ unspoken
-unfolding all is_whole_lem all_whole marked_at
+unfolding all is_whole all_whole marked_at
 met_3_header =
     sh_demand_3_fault other_head refl session (rest right) (application ∷ common ++ (loud ∷ own right)) (all_whole_lem (session ∷ rest right) refl) [] refl
     (lit≤ tt) (asking []) (marked_at other_head (application ∷ common) (own right)) refl
@@ -222,7 +222,7 @@ row_loud = application ∷ common ++ (quiet ∷ loud ∷ own right)
 
 module _ (top : List ℕ) (twenty : length top ≡ 20) where
   cut : Cut (asks top (rest right))
-  unfolding all is_whole_lem all_whole
+  unfolding all is_whole all_whole
   cut =
       record {
         head = top;

@@ -45,7 +45,7 @@ read_exact area file h = areas.check_exact area file h
 pub read_short : (area : List ℕ) (file : ℕ) → length area < size_in area → check_area area file ≡ Bad 0
 read_short area file h = areas.check_short area file h
 
--- "A new edition 2 table is written over the working area block by block from block 0": nothing yet (a block more is `cut-more`, and all are `cut_all`).
+-- "A new edition 2 table is written over the working area block by block from block 0": nothing yet (a block more is `cut_more`, and all are `cut_all`).
 pub cut_none : (area fresh : List ℕ) → cut_after area fresh 0 ≡ area
 cut_none area fresh = sym (turns.cut_none area fresh)
 
@@ -107,7 +107,7 @@ module _ (area fresh : List ℕ) (file : ℕ) where
     pub as_long : length (take_over area fresh file).area ≡ length area
     as_long = rw (outcomes.done area fresh file count t) (outcomes.done_length area fresh file count t)
 
-    -- ".. block by block from block 0": behind none (`cut-none`) a block more, and all.
+    -- ".. block by block from block 0": behind none (`cut_none`) a block more, and all.
     pub cut_more : (k : ℕ) → k ≤ count → with_block (cut_after area fresh k) fresh k ≡ cut_after area fresh (k + 1)
     cut_more k h = outcomes.cut_turn area fresh file count t k h
 

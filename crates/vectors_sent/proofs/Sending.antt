@@ -1,4 +1,4 @@
--- What becomes of the vector file, as theorems about `serve`, which is what the exported call is promised to leave (`vectors-promised`), for anything lent. It
+-- What becomes of the vector file, as theorems about `serve`, which is what the exported call is promised to leave (`vectors_promised`), for anything lent. It
 -- goes by the table at the front of the area: `table_only a`. What the words below mean is in specs/Sent (one call) and specs/Row (a row of calls).
 use Rattle.octets.specs.Standard.{ℕ, ◌/◌, ◌<◌, min, List, [], ◌∷◌, ◌++◌, true, false, true≢false, ◌≡◌, sym, ap, ◌∙◌, ◌⊎◌, inl, inr, ◌≢◌, length, get_or}
 use Rattle.octets.specs.Standard.{lt-ltb}
