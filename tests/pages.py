@@ -54,7 +54,7 @@ WITH_STEPS = {'rewrite/Reaching', 'seen_alike/Likeness'}
 NO_STATEMENTS = set('''
     Areas AsWalked Cases Challenges Editions Escaping Examples Family Features Instances Listing Members Moves One Peers Reached Readings Room Same Servers Sole Sound TakeOvers Worked
 '''.split())
-# The crates that have wrong servers, wrong reporters or wrong rows, each with a theorem `.. -fails`.
+# The crates that have wrong servers, wrong reporters or wrong rows, each with a theorem `.._fails`.
 WRONG = ('report_example', 'row_example', 'sets_example', 'sh_example', 'taking_example', 'wrong_lists', 'wrong_servers')
 # What a cell of the column Theorem says where there is no theorem: it is the contract of a function of that row; or there is none, and why.
 MARKS = ('the contract', 'none:')
@@ -132,11 +132,11 @@ def declared_by(text):
 
 class Tree:
     def __init__(self):
-        self.crates = re.findall(r'(?m)^([a-z_]+):', read('crates.txt'))
+        self.crates = re.findall(r'(?m)^([a-z_]+)(?: staticlib)?:', read('crates.txt'))
         self.modules, self.statements, self.code, self.contracts, self.text, self.pages = {}, {}, {}, {}, [], set()
-        for path in sorted(glob.glob('crates/*/*/**/*.antt', recursive=True) + glob.glob('crates/*/src/**/*.rt', recursive=True)):
+        for path in sorted(path for form in ('specs/**/*.antt', 'proofs/**/*.antt', 'src/**/*.rt') for path in glob.glob('crates/*/' + form, recursive=True)):
             crate, part, file = path[len('crates/'):].split('/', 2)
-            if file.endswith('/Proof.antt'):
+            if file.endswith(('/Proof.antt', '/Answers.antt', '/Invariants.antt')):
                 continue  # of one function; it has no names that are used elsewhere
             text, key = read(path), (crate, part, os.path.splitext(os.path.basename(file))[0])
             self.text.append(folded(text))
@@ -235,14 +235,14 @@ def units(lines):
 
 
 def spans(text):
-    """What stands in backquotes; `-more` behind `some-name` is short for `some-more`, and `b.edit` behind `a/must-fail/a.edit` for one of that folder."""
+    """What stands in backquotes; `_more` behind `some_name` is short for `some_more`, and `b.edit` behind `a/must-fail/a.edit` for one of that folder."""
     name = folder = ''
     for span in re.findall(r'`([^`]+)`', text):
-        if re.fullmatch(r'-[a-z0-9]+(-[a-z0-9]+)*', span) and '-' in name:
-            span = name.rpartition('-')[0] + span
+        if re.fullmatch(r'_[a-z0-9]+(_[a-z0-9]+)*', span) and '_' in name:
+            span = name.rpartition('_')[0] + span
         elif re.fullmatch(r'\w+\.(edit|antt)', span) and folder:
             span = folder + '/' + span
-        name = span if re.fullmatch(r"[a-z][a-z0-9'-]*", span) else name
+        name = span if re.fullmatch(r"[a-z][a-z0-9'_]*", span) else name
         folder = span.rpartition('/')[0] if re.fullmatch(r'[a-z_]+/[a-z-]+/\w+(\.\w+)?', span) else folder
         yield span
 
@@ -255,7 +255,7 @@ def expanded(text):
 
 # ---- quotations and names
 
-SOURCE = re.compile(r'[⌜≡ℕλ]|^\s*(?:pub |unfoldable |abbrev |fn )', re.M)
+SOURCE = re.compile(r'[≡ℕλ]|^\s*(?:pub |unfoldable |abbrev |fn )', re.M)
 
 
 def check_quotation(tree, page, text):
@@ -281,8 +281,8 @@ def known(tree, span):
         return all(word in tree.make or word in tree.around or is_file(tree, word) for word in words)
     if re.fullmatch(r'\w+(::\w+)+', span):
         return words[0].startswith(('libc::', 'os::c::')) or tree.has_path(span)
-    if re.fullmatch(r'\w+ \.\w+', span):
-        return words[0] in tree.names and words[1][1:] in tree.names
+    if re.fullmatch(r'[a-z]\w*\.[a-z]\w*', span) and not is_file(tree, span):
+        return all(word in tree.names for word in span.split('.')) or tree.holds(span)
     if re.fullmatch(r"[A-Za-z][\w'-]*(\(\))?", span):
         return is_name(tree, span.rstrip('()')) or is_file(tree, span)
     return is_file(tree, span) or tree.holds(span)
@@ -365,7 +365,7 @@ def named(cell):
     begin = re.findall(r'`([^`]+)` and those that begin so', cell)
     for names in re.findall(LIST + ', with those that begin so', cell):
         begin += spans(names)
-    return set(spans(cell)), tuple(name + '-' for name in begin)
+    return set(spans(cell)), tuple(name + '_' for name in begin)
 
 
 def check_map(tree):
@@ -424,7 +424,7 @@ def check_wrong_answers(tree):
     said = [span for _, block, text in paragraphs(page) for span in spans(text)]
     for edit in sorted(tree.edits.difference(said)):
         fault(page, 'does not name the must-fail edit `%s`' % edit)
-    wrong = [name for crate in WRONG for name in tree.within(crate, ('proofs',)) if name.endswith('-fails')]
+    wrong = [name for crate in WRONG for name in tree.within(crate, ('proofs',)) if name.endswith('_fails')]
     for name in sorted(set(wrong)):
         if said.count(name) < wrong.count(name):
             fault(page, 'does not name the wrong server or reporter of `%s`' % name)
