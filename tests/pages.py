@@ -8,8 +8,8 @@
 - The tables of docs/ARCHITECTURE.md name every theorem of the pages of statements, each in the table of its request, and say in every row what is proved.
 - docs/PROVED.md names every must-fail edit, every wrong server and every wrong reporter.
 - Functions, constants and options of the manual pages are those of the headers and the examples.
-- Of docs/LANDINGS.md, which is history, only the newest note is read, and there no sentence that tells what was; but that note, and that of each request,
-  tells the check's time."""
+- docs/PORT.md, which says what was spelled and called otherwise with an older kit, is not read. Of docs/LANDINGS.md, which is history, only the newest
+  note is read, and there no sentence that tells what was; but that note, and that of each request, tells the check's time."""
 import functools, glob, os, re, sys
 
 # The pages of statements, by crate and module of proofs/, and which tables of docs/ARCHITECTURE.md name their theorems: those with this in the heading, or
@@ -62,8 +62,8 @@ MARKS = ('the contract', 'none:')
 # Names that are not this tree's: words of Rattle, of C, of other software, of protocols; and samples.
 OTHERS = set('''
     Bool abbrev ensures false match none not pub requires true unfoldable use mod zero wrapping_add wrapping_sub memcpy memset strict_mbit cxdx_forced_peer
-    diameter_gen_base_rfc3588 diameter_gen_base_rfc6733 AKAv1-MD5 Digest-AKAv1-MD5 unknown nonce= response= axioms= libraries-built=trusted logic-built=trusted
-    Bob a aa bob isle r key=value m1 m4 o1 o4
+    diameter_gen_base_rfc3588 diameter_gen_base_rfc6733 AKAv1-MD5 Digest-AKAv1-MD5 unknown nonce= response= axioms= axioms=37 libraries-built=trusted logic-built=trusted
+    Bob a aa bob isle r key=value m1 m4 o1 o4 qemu-x86_64
 '''.split()) | {
     r'a\0', '#', r'\"', r'\\', r'\xHH', 't .entry', 'refused 2', 'installed', 'number << 48', 'number << 48 | place << 32 | value', 'N passed, 0 failed',
     'PKG_CONFIG_PATH=PREFIX/lib/pkgconfig', "awk '$1 < 10'", 'chmod a-w', 'freeDiameterd -c relay.conf', 'save()', 'save("SAA", "location", "0", "0")',
@@ -72,6 +72,8 @@ OTHERS = set('''
 SAMPLE = re.compile(r'(sip|tel):\S+|<[\w-]+/?>|\d+ passed, 0 failed')
 # What is made or installed and is not in the tree.
 MADE = ('live', 'cards', 'service', 'target', 'share', '..')
+
+PORT = 'docs/PORT.md'
 
 faults = []
 
@@ -450,7 +452,7 @@ def check():
     """What is wrong in the tree of the current folder, and how much was looked at."""
     faults.clear()
     tree = Tree()
-    pages, seen = ['README.md'] + sorted(glob.glob('docs/*.md')), 0
+    pages, seen = ['README.md'] + sorted(set(glob.glob('docs/*.md')) - {PORT}), 0
     for page in pages:
         for heading, block, text in paragraphs(page):
             if block:
