@@ -65,7 +65,7 @@ OTHERS = set('''
     diameter_gen_base_rfc3588 diameter_gen_base_rfc6733 AKAv1-MD5 Digest-AKAv1-MD5 unknown nonce= response= axioms= axioms=37 libraries-built=trusted logic-built=trusted
     Bob a aa bob isle r key=value m1 m4 o1 o4 qemu-x86_64
 '''.split()) | {
-    'crates/*/out/', r'a\0', '#', r'\"', r'\\', r'\xHH', 't .entry', 'refused 2', 'installed', 'number << 48', 'number << 48 | place << 32 | value', 'N passed, 0 failed',
+    'crates/*/out/', r'a\0', '#', r'\"', r'\\', r'\xHH', 'refused 2', 'installed', 'number << 48', 'number << 48 | place << 32 | value', 'N passed, 0 failed',
     'PKG_CONFIG_PATH=PREFIX/lib/pkgconfig', "awk '$1 < 10'", 'chmod a-w', 'freeDiameterd -c relay.conf', 'save()', 'save("SAA", "location", "0", "0")',
     'ims.mnc001.mcc001.3gppnetwork.org',
 }
