@@ -1,6 +1,6 @@
 # What stands around the proved crates: the C examples, the tests, the benchmarks, the installation. All that is made
-# lies under target/ (and reference/target/). The libraries' archives are x86-64 code on every machine; where the machine
-# is another, C is cross-compiled against them and run by the kit's emulator.
+# lies under target/ (and reference/target/), but for what rt keeps in crates/*/out/. The libraries' archives are x86-64 code on every machine;
+# where the machine is another, C is cross-compiled against them and run by an emulator.
 # A line that begins with `#:` is what `make help` says of the target below it.
 # make test runs its parts side by side and notes what each takes; tests/timed.sh is bash, with a clock.
 ifdef TIMES
@@ -25,13 +25,10 @@ else
 X86_CC := x86_64-linux-gnu-gcc -static
 # gcc compiles C++ too, and unlike g++ asks for no static libm, of which Debian's script for the linker names a wrong folder.
 X86_CXX := $(X86_CC)
-RUN = $(KIT)/on/$(MACHINE)/toolchain/bin/qemu-x86_64
+RUN := qemu-x86_64
 endif
 # Asked for only where a recipe needs it: `make clean` works without rt.
-KIT = $(shell dirname "$$(rt doc)")/..
-
-# One rt at a time writes to target/.
-RT := mkdir -p target && flock target/rt.lock rt
+KIT = $(shell dirname "$$(rt doc)")
 
 STRICT := -O2 -Wall -Wextra -pedantic -Werror -Iinclude
 ARCHIVE := target/staticlib/libndushavire.a
@@ -40,7 +37,8 @@ ARCHIVES := $(SH_ARCHIVE) $(ARCHIVE)
 HEADER := include/ndushavire.h
 SH_HEADER := include/ndushavire_sh.h
 BINARY := reference/target/release/reference
-PROVED := crates.txt $(shell find crates -name '*.rt' -o -name '*.antt' -o -type d)
+# What an archive or a program is made from; of crates/*/out/ nothing, where rt writes.
+PROVED := crates.txt $(shell find crates -mindepth 2 -name out -prune -o \( -name '*.rt' -o -name '*.antt' -o -type d \) -print)
 # Over the archive, which is x86-64 code, and nothing of theirs is static: these are installed on x86-64 alone. The other two are plain C.
 OVER_ARCHIVE := target/bin/answer target/bin/tablecheck target/c99/check target/c99/list target/c99/move target/c99/report target/c99/take
 PROGRAMS := target/c/maketable target/c/showtable $(if $(filter x86_64,$(MACHINE)),$(OVER_ARCHIVE))
@@ -70,9 +68,12 @@ run: target/c/maketable target/c99/check target/c99/userdata target/bin/answer $
 	@printf '\n%s\n' "examples/voicemail.hex: $$(sed -n 's/^# asked: //p' examples/voicemail.hex)"
 	@$(RUN) target/c99/userdata target/run/table target/run/profile examples/voicemail.hex | tail -n 1
 
+# What rt ci or an earlier run made of these sources is taken as it lies there.
 target/bin/%: $(PROVED)
-	$(RT) check $*
-	touch $@
+	[ -f crates/$*/out/$* ] && [ -z "$$(find $(PROVED) -maxdepth 0 -newer crates/$*/out/$* -print -quit)" ] || \
+	    { cd crates/$* && rt run -- --version; }
+	mkdir -p $(@D)
+	cp crates/$*/out/$* $@
 
 # The parts of make test, the longest first. What they need is made before, once, and what needs the archive waits for it alone.
 PARTS := stores differential daemon reference tables narrow texts examples installs recipes cited programs noticed takes pages kit fmt header aims unsound reports moves \
@@ -94,7 +95,7 @@ quick:
 
 #: fmt                whether crates/ is in the kit's layout
 fmt:
-	rt fmt --check
+	tests/fmt.sh target/test/fmt
 
 #: kit                whether .ci/run refuses another kit than the one that is pinned in KIT-ID
 kit:
@@ -314,7 +315,7 @@ stats: $(BINARY)
 COUNT_DEFINITIONS := 300
 #: definitions-check  300 calls computed from the definitions and compared, a quarter of an hour; COUNT_DEFINITIONS=24 is a trial
 definitions-check: $(BINARY)
-	RT_JOBS=2 tests/within.sh target/test/definitions tests/definitions.py $(BINARY) $(SEED) $(COUNT_DEFINITIONS)
+	tests/within.sh target/test/definitions tests/definitions.py $(BINARY) $(SEED) $(COUNT_DEFINITIONS)
 
 SECONDS := 900
 #: long               mutants, stats, definitions-check, cuts, parsed, plain, rows and soak, each in its share of SECONDS=N (900) once all is made, what each covered, and its seeds
@@ -327,8 +328,11 @@ long: target/c99/driver target/c99/takes target/c99/cuts target/c99/take target/
 cases: $(BINARY)
 	tests/cases.py $(BINARY) crates/cases
 
+# A static library is a thin crate over the library of its name; the archive has the name that callers in C know.
 $(ARCHIVES): target/staticlib/lib%.a: $(PROVED)
-	$(RT) staticlib $*
+	packaging/archive.sh $*_c
+	mkdir -p $(@D)
+	cp crates/$*_c/out/lib$*_c.a $@
 
 $(BINARY): $(REFERENCE)
 	cd reference && cargo build --offline --release --quiet
@@ -412,7 +416,7 @@ target/c99/stack: bench/stack.c bench/requests.h bench/samples.h bench/vectors.h
 	$(IN_C99)
 target/c99/stack: FLAGS = -Wl,-z,lazy
 
-# ---- the benchmarks, native on every machine
+# ---- the benchmarks: of the archives, so on x86-64 alone
 ifeq ($(MACHINE),x86_64)
 TUNE_native := -march=native
 TIMED := $(ARCHIVES)
@@ -470,8 +474,9 @@ else
 	@echo 'Bound lazily: not measured, since programs are linked statically here.'
 endif
 
-target/native/lib%.a: bench/native-lib $(PROVED)
-	bench/native-lib $*
+target/native/lib%.a:
+	@echo 'The libraries are not timed here: the kit makes x86-64 code, and this machine is $(MACHINE).' >&2
+	@exit 1
 
 # The least that a check of a file can do, for any x86-64 or Arm and for this machine's own processor.
 TUNE_plain :=
@@ -512,6 +517,6 @@ install: installable $(ARCHIVES) $(PROGRAMS)
 uninstall:
 	packaging/install.sh uninstall
 
-#: clean              removes target/ and reference/target/
+#: clean              removes target/ and reference/target/; what rt keeps of proofs stays in crates/*/out/
 clean:
 	rm -rf target reference/target

@@ -298,29 +298,28 @@ def record(case):
 
 
 # What the cases open or name besides, by the module that has it: the area, the call, the take-over.
-OPENED = {'table.specs.Area': ['sizeIn', 'tableIn'], 'taking.specs.Found': ['greaterAt', 'greaterThanAll'],
-          'taking.specs.TakeOver': ['unfit', 'notGreater', 'tooShort', 'takeOver']}
+OPENED = {'table.specs.Area': ['size_in', 'table_in'], 'taking.specs.Found': ['greater_at', 'greater_than_all'],
+          'taking.specs.TakeOver': ['unfit', 'not_greater', 'too_short', 'take_over']}
 NAMED = {'calling.specs.Serve': ['serve'], 'taking.specs.TakeOver': ['came']}
-OF_SH = {'ndushavire_sh.specs.Lent': ['lent'], 'ndushavire_sh.specs.Serve': ['shServe']}
+OF_SH = {'ndushavire_sh.specs.Lent': ['lent'], 'ndushavire_sh.specs.Serve': ['sh_serve']}
 
 
 def opened(crate, opens, names_only):
     """The `use` lines of what a crate's worked examples share, and those of the names that they open which these lines bring; and what is opened or named
     besides."""
     text = open('crates/%s/proofs/Sample.antt' % crate).read()
-    uses = re.findall(r'^use .*', text, re.MULTILINE)
+    uses = [' '.join(use.split()) for use in re.findall(r'^use [^{]*\{[^}]*\}', text, re.MULTILINE)]
     brought = set(re.findall(r'[^\s{},]+', ' '.join(use[use.index('{'):] for use in uses)))
-    uses += ['use Rattle·%s.{%s}' % (path, name) for more in (opens, names_only) for path, own in more.items() for name in own if name not in brought]
+    uses += ['use Rattle.%s.{%s}' % (path, name) for more in (opens, names_only) for path, own in more.items() for name in own if name not in brought]
     names = re.search(r'^unfoldable pub opened : ℕ\nunfolding (.*?)^opened = ', text, re.MULTILINE | re.DOTALL).group(1).split()
     return uses, [name for name in names if name in brought] + [name for own in opens.values() for name in own if name not in names]
 
 
 CASES = '''%s
-use mathlib.Core.Path.{_≡_}
-use lib.Seq.{sets}
-use Rattle·requests.specs.Request.{underCx}
-use Rattle·calling.specs.Lent.{lent}
-use Rattle·ndushavire.specs.Reads.{callIn, takeIn}
+use Rattle.octets.specs.Standard.{◌≡◌, sets}
+use Rattle.requests.specs.Request.{under_cx}
+use Rattle.calling.specs.Lent.{lent}
+use Rattle.ndushavire.specs.Reads.{call_in, take_in}
 
 -- all that the cases open
 unfoldable pub opened : ℕ
@@ -345,9 +344,9 @@ pub record Case : Type 0 where
 
 abbrev pub Agrees : Case → Type 0
 Agrees c =
-    serve (lent (c .request) (c .table) (c .profile) (c .vectors) (replicate (c .room) 0) (underCx (c .peer) (c .features)))
-    ≡ record { call = callIn (c .word); table = sets (c .table) (c .at) (c .changed);
-               vectors = sets (c .vectors) (c .vectorsAt) (c .vectorsChanged); buffer = over (c .answer) (replicate (c .room) 0) }
+    serve (lent c.request c.table c.profile c.vectors (replicate c.room 0) (under_cx c.peer c.features))
+    ≡ record { call = call_in c.word; table = sets c.table c.at c.changed;
+               vectors = sets c.vectors c.vectorsAt c.vectorsChanged; buffer = over c.answer (replicate c.room 0) }
 
 abbrev pub Agree : List Case → Type 0
 Agree [] = Unit
@@ -363,11 +362,11 @@ pub record Take : Type 0 where
   pub changed : List ℕ
 
 abbrev pub Took : Take → Type 0
-Took c = takeOver (c .area) (c .fresh) (length (c .profile)) ≡ came (takeIn (c .word)) (sets (c .area) (c .at) (c .changed))
+Took c = take_over c.area c.fresh (length c.profile) ≡ came (take_in c.word) (sets c.area c.at c.changed)
 '''
 ASKED = '''%s
-use mathlib.Core.Path.{_≡_}
-use Rattle·ndushavire.specs.Reads.{callIn}
+use Rattle.octets.specs.Standard.{◌≡◌}
+use Rattle.ndushavire.specs.Reads.{call_in}
 
 -- all that the calls of Sh open
 unfoldable pub opened : ℕ
@@ -386,13 +385,11 @@ pub record Ask : Type 0 where
 
 abbrev pub Told : Ask → Type 0
 Told c =
-    shServe (lent (c .request) (c .table) (c .profile) (replicate (c .room) 0) (c .peer))
-    ≡ record { call = callIn (c .word); buffer = over (c .answer) (replicate (c .room) 0) }
+    sh_serve (lent c.request c.table c.profile (replicate c.room 0) c.peer)
+    ≡ record { call = call_in c.word; buffer = over c.answer (replicate c.room 0) }
 '''
-PART = '''use mathlib.Core.Path.{refl}
-use mathlib.Core.List.{List, [], _∷_, _++_}
-use lib.ListN.{replicate}
-use Rattle·computed·proofs.proofs.%s.{%s, opened}
+PART = '''use Rattle.octets.specs.Standard.{refl, List, [], ◌∷◌, ◌++◌, replicate}
+use Rattle.computed.proofs.%s.{%s, opened}
 '''
 OF_CASES, OF_ASKS = PART % ('Cases', 'Case, Agrees, Take, Took'), PART % ('Asked', 'Ask, Told')
 # A declaration for each case, since antt counts the steps of each.
@@ -420,8 +417,8 @@ pub told%(n)d : Told ask%(n)d
 unfolding opened
 told%(n)d = refl
 '''
-ALL = '''use mathlib.Core.List.{List, [], _∷_}
-use Rattle·computed·proofs.proofs.Cases.{Case, Agree}
+ALL = '''use Rattle.octets.specs.Standard.{List, [], ◌∷◌}
+use Rattle.computed.proofs.Cases.{Case, Agree}
 %(uses)s
 
 abbrev cases : List Case
@@ -442,7 +439,7 @@ def modules(cases, takes, asks):
     for part in range(0, len(cases), IN_A_PART):
         some = numbers[part:part + IN_A_PART]
         yield 'Part%d' % part, OF_CASES + ''.join(CASE % {'n': n, 'record': record(cases[n])} for n in some)
-        uses.append('use Rattle·computed·proofs.proofs.Part%d.{%s}' % (part, ', '.join('case%d, agrees%d' % (n, n) for n in some)))
+        uses.append('use Rattle.computed.proofs.Part%d.{%s}' % (part, ', '.join('case%d, agrees%d' % (n, n) for n in some)))
     yield 'Takes', OF_CASES + ''.join(TAKE % {'n': n, 'record': record(take)} for n, take in enumerate(takes))
     for part in range(0, len(asks), IN_A_PART):
         yield 'Asks%d' % part, OF_ASKS + ''.join(ASK % {'n': part + n, 'record': record(ask)} for n, ask in enumerate(asks[part:part + IN_A_PART]))
@@ -455,13 +452,13 @@ def write(folder, cases, takes, asks):
         os.makedirs('%s/%s' % (folder, part))
     texts = dict(modules(cases, takes, asks))
     lib = ''.join('pub mod %s\n' % name for name in texts)
-    for name, text in [('src/lib.rt', '// Generated cases.\n'), ('specs/Lib.antt', ''), ('proofs/Lib.antt', lib)] + [
+    for name, text in [('src/lib.rt', '#![tactic(auto)]\n// Generated cases.\n'), ('specs/Lib.antt', ''), ('proofs/Lib.antt', lib)] + [
             ('proofs/%s.antt' % name, text) for name, text in texts.items()]:
         open('%s/%s' % (folder, name), 'w').write(text)
 
 
 def copy(folder):
-    """What crates/worked_examples and crates/sh_example use, and crates/ndushavire, as far as they are proved, and `computed` above them."""
+    """What crates/worked_examples and crates/sh_example use, and crates/ndushavire, and `computed` above them."""
     lines = dict(re.findall(r'^(\w+):(.*)', open('crates.txt').read(), re.MULTILINE))
     below = set((lines['worked_examples'] + lines['sh_example'] + ' taking ndushavire').split())
     used = ' ' + ' '.join(sorted(below))
@@ -470,9 +467,8 @@ def copy(folder):
     with open(folder + '/crates.txt', 'w') as text:
         text.writelines('%s:%s\n' % (name, lines[name]) for name in below)
         text.write('computed:%s\n' % used)
-    for part in ['crates/' + name for name in below] + ['target/rlib', 'target/stamp']:
-        if os.path.isdir(part):
-            shutil.copytree(part, '%s/%s' % (folder, part), symlinks=True)
+    for name in below:  # what rt keeps of them here it finds by itself
+        shutil.copytree('crates/' + name, '%s/crates/%s' % (folder, name), ignore=shutil.ignore_patterns('out', 'must-fail'))
 
 
 def gather(reference, seed, count):
@@ -500,7 +496,7 @@ def main():
     with tempfile.TemporaryDirectory() as folder:
         copy(folder)
         write(folder + '/crates/computed', cases, takes, asks)
-        status = subprocess.run(['rt', 'check', 'computed'], cwd=folder).returncode
+        status = subprocess.run(['rt', 'check'], cwd=folder + '/crates/computed').returncode
         if status == 3:
             sys.exit('definitions.py: antt could not tell; nothing is known to differ')
         if status != 0:

@@ -1,7 +1,7 @@
 #!/usr/bin/env bash
 # kit.sh ROOM: .ci/run refuses a kit that is not the one pinned in KIT-ID, names both, and does nothing else; with the pinned one
-# it goes on. The rt that it finds here only says a version, and every other command of it fails. Then the table of what its parts took; and
-# make test has every part that make help lists for it.
+# it goes on. The rt that it finds here only says a version, and every other command of it fails. What rt ci says is no verdict if an edit was bad or the
+# last line is another. Then the table of what its parts took; and make test has every part that make help lists for it.
 . "$(dirname "$0")/script.sh"
 make_room "$1" bin
 cat >"$room/bin/rt" <<END
@@ -32,15 +32,41 @@ ends 9
 [ -s "$room/done" ] || fail 'nothing was done with the pinned kit'
 [ "$(wc -l <"$top/KIT-ID")" = 1 ] || fail 'KIT-ID is not one line'
 
+# rt ci that warns of a bad edit, that says no more whether there are any, or whose last line is another: none of these is a verdict.
+cat >"$room/bin/rt" <<END
+#!/bin/sh
+[ "\$*" = version ] && exec cat "$room/version"
+[ "\$*" = ci ] && exec cat "$room/ci"
+exit 9
+END
+printf '%s\n' '#!/bin/sh' "echo \"make \$*\" >>'$room/done'" 'exit 8' >"$room/bin/make"
+chmod +x "$room/bin/make"
+gate() { # OK LAST
+    printf '%s\n' 'rt: octets proved' "$1" "$2" >"$room/ci"
+}
+gate 'rt: ok; handles allowed: none; must-fail edits: 2 refused, 1 bad; every proof and must-fail edit was done in this run' '4 passed, 0 failed'
+ends 1 'must-fail edits that could not be tried: 1'
+gate 'rt: octets ran' '4 passed, 0 failed'
+ends 1 "rt ci does not say 'rt: ok'"
+gate 'rt: ok; handles allowed: none; must-fail edits: 2 refused; every proof and must-fail edit was done in this run' '4 passed, 0 failed (octets alone)'
+ends 1 'is no verdict'
+[ ! -e "$room/done" ] || fail "something was done behind no verdict: $(cat "$room/done")"
+gate 'rt: ok; handles allowed: none; must-fail edits: 2 refused, 1 of them only by a limit; every proof and must-fail edit was done in this run' '4 passed, 0 failed'
+ends 8
+[ "$(cat "$room/done")" = 'make test' ] || fail "behind a verdict this is done: $(cat "$room/done")"
+! grep -q ' passed, 0 failed' "$room/said" || fail 'where the tests fail, the last line of rt ci is said all the same'
+
 cat >"$room/log" <<'END'
 3 fn octets::now: proved
-35 rt: octets proved (32 s)
-60 rt: record proved (25 s)
-61 rt: must-fail record/first-fails: refused, as it must be (first at src/lib.rt:3:4; 20 s)
-99 rt: must-fail record/second-fails: refused, as it must be (30 s)
-101 rt: answer ran as nobody, and wrote what its file 'stdout' has (1 s)
-101 rt: ok, 2 crates proved, 2 must-fail edits refused
-101 4 passed, 0 failed
+35 rt: octets proved
+36 rt: octets: trying its must-fail edits (2)
+57 rt: blocks is kept: an earlier run on this machine proved the same files over the same libraries
+60 rt: record proved
+99 rt: must-fail record/first_fails.edit: refused, as it must be: src/lib.rt:3:4: error
+99 rt: must-fail record/second_fails.edit: refused, as it must be
+101 rt: answer ran, and wrote what its file stdout has
+101 rt: ok; handles allowed: none; must-fail edits: 2 refused; every proof and must-fail edit was done in this run
+101 5 passed, 0 failed
 701 tests passed
 END
 cat >"$room/times" <<'END'
@@ -51,12 +77,11 @@ tables 10.5 3.0 0.0
 END
 diff - <("$top/.ci/times.sh" "$room/log" "$room/times") >&2 <<'END' || fail 'the table of times is another one'
 What each part took by the clock:
-  proofs    1 min 00 s   2 crates, which add up to 57 s
-  edits     0 min 39 s   2 edits, which add up to 50 s
-  tests    10 min 00 s   46 s of processor
-  all      11 min 41 s
-The longest crates, s: octets 32, record 25
-The longest edits, s: record/second-fails 30, record/first-fails 20
+  proofs     1 min 00 s   3 crates, of which 1 were kept from an earlier run
+  edits      0 min 39 s   behind the last proof; 2 edits in all
+  programs   0 min 02 s
+  tests     10 min 00 s   46 s of processor
+  all       11 min 41 s
 The tests, s by the clock and of processor, what takes a second and more:
     90.5   25.0  tables
     40.2   21.2  texts

@@ -8,8 +8,8 @@
 - The tables of docs/ARCHITECTURE.md name every theorem of the pages of statements, each in the table of its request, and say in every row what is proved.
 - docs/PROVED.md names every must-fail edit, every wrong server and every wrong reporter.
 - Functions, constants and options of the manual pages are those of the headers and the examples.
-- Of docs/LANDINGS.md, which is history, only the newest note is read, and there no sentence that tells what was; but that note, and that of each request,
-  tells the check's time."""
+- docs/PORT.md, which says what was spelled and called otherwise with an older kit, is not read. Of docs/LANDINGS.md, which is history, only the newest
+  note is read, and there no sentence that tells what was; but that note, and that of each request, tells the check's time."""
 import functools, glob, os, re, sys
 
 # The pages of statements, by crate and module of proofs/, and which tables of docs/ARCHITECTURE.md name their theorems: those with this in the heading, or
@@ -54,7 +54,7 @@ WITH_STEPS = {'rewrite/Reaching', 'seen_alike/Likeness'}
 NO_STATEMENTS = set('''
     Areas AsWalked Cases Challenges Editions Escaping Examples Family Features Instances Listing Members Moves One Peers Reached Readings Room Same Servers Sole Sound TakeOvers Worked
 '''.split())
-# The crates that have wrong servers, wrong reporters or wrong rows, each with a theorem `.. -fails`.
+# The crates that have wrong servers, wrong reporters or wrong rows, each with a theorem `.._fails`.
 WRONG = ('report_example', 'row_example', 'sets_example', 'sh_example', 'taking_example', 'wrong_lists', 'wrong_servers')
 # What a cell of the column Theorem says where there is no theorem: it is the contract of a function of that row; or there is none, and why.
 MARKS = ('the contract', 'none:')
@@ -62,16 +62,18 @@ MARKS = ('the contract', 'none:')
 # Names that are not this tree's: words of Rattle, of C, of other software, of protocols; and samples.
 OTHERS = set('''
     Bool abbrev ensures false match none not pub requires true unfoldable use mod zero wrapping_add wrapping_sub memcpy memset strict_mbit cxdx_forced_peer
-    diameter_gen_base_rfc3588 diameter_gen_base_rfc6733 AKAv1-MD5 Digest-AKAv1-MD5 unknown nonce= response= axioms= libraries-built=trusted logic-built=trusted
-    Bob a aa bob isle r key=value m1 m4 o1 o4
+    diameter_gen_base_rfc3588 diameter_gen_base_rfc6733 AKAv1-MD5 Digest-AKAv1-MD5 unknown nonce= response= axioms= axioms=37 libraries-built=trusted logic-built=trusted
+    Bob a aa bob isle r key=value m1 m4 o1 o4 qemu-x86_64
 '''.split()) | {
-    r'a\0', '#', r'\"', r'\\', r'\xHH', 't .entry', 'refused 2', 'installed', 'number << 48', 'number << 48 | place << 32 | value', 'N passed, 0 failed',
+    'crates/*/out/', r'a\0', '#', r'\"', r'\\', r'\xHH', 'refused 2', 'installed', 'number << 48', 'number << 48 | place << 32 | value', 'N passed, 0 failed',
     'PKG_CONFIG_PATH=PREFIX/lib/pkgconfig', "awk '$1 < 10'", 'chmod a-w', 'freeDiameterd -c relay.conf', 'save()', 'save("SAA", "location", "0", "0")',
     'ims.mnc001.mcc001.3gppnetwork.org',
 }
 SAMPLE = re.compile(r'(sip|tel):\S+|<[\w-]+/?>|\d+ passed, 0 failed')
 # What is made or installed and is not in the tree.
 MADE = ('live', 'cards', 'service', 'target', 'share', '..')
+
+PORT = 'docs/PORT.md'
 
 faults = []
 
@@ -132,11 +134,11 @@ def declared_by(text):
 
 class Tree:
     def __init__(self):
-        self.crates = re.findall(r'(?m)^([a-z_]+):', read('crates.txt'))
+        self.crates = re.findall(r'(?m)^([a-z_]+)(?: staticlib)?:', read('crates.txt'))
         self.modules, self.statements, self.code, self.contracts, self.text, self.pages = {}, {}, {}, {}, [], set()
-        for path in sorted(glob.glob('crates/*/*/**/*.antt', recursive=True) + glob.glob('crates/*/src/**/*.rt', recursive=True)):
+        for path in sorted(path for form in ('specs/**/*.antt', 'proofs/**/*.antt', 'src/**/*.rt') for path in glob.glob('crates/*/' + form, recursive=True)):
             crate, part, file = path[len('crates/'):].split('/', 2)
-            if file.endswith('/Proof.antt'):
+            if file.endswith(('/Proof.antt', '/Answers.antt', '/Invariants.antt')):
                 continue  # of one function; it has no names that are used elsewhere
             text, key = read(path), (crate, part, os.path.splitext(os.path.basename(file))[0])
             self.text.append(folded(text))
@@ -235,14 +237,14 @@ def units(lines):
 
 
 def spans(text):
-    """What stands in backquotes; `-more` behind `some-name` is short for `some-more`, and `b.edit` behind `a/must-fail/a.edit` for one of that folder."""
+    """What stands in backquotes; `_more` behind `some_name` is short for `some_more`, and `b.edit` behind `a/must-fail/a.edit` for one of that folder."""
     name = folder = ''
     for span in re.findall(r'`([^`]+)`', text):
-        if re.fullmatch(r'-[a-z0-9]+(-[a-z0-9]+)*', span) and '-' in name:
-            span = name.rpartition('-')[0] + span
+        if re.fullmatch(r'_[a-z0-9]+(_[a-z0-9]+)*', span) and '_' in name:
+            span = name.rpartition('_')[0] + span
         elif re.fullmatch(r'\w+\.(edit|antt)', span) and folder:
             span = folder + '/' + span
-        name = span if re.fullmatch(r"[a-z][a-z0-9'-]*", span) else name
+        name = span if re.fullmatch(r"[a-z][a-z0-9'_]*", span) else name
         folder = span.rpartition('/')[0] if re.fullmatch(r'[a-z_]+/[a-z-]+/\w+(\.\w+)?', span) else folder
         yield span
 
@@ -255,7 +257,7 @@ def expanded(text):
 
 # ---- quotations and names
 
-SOURCE = re.compile(r'[⌜≡ℕλ]|^\s*(?:pub |unfoldable |abbrev |fn )', re.M)
+SOURCE = re.compile(r'[≡ℕλ]|^\s*(?:pub |unfoldable |abbrev |fn )', re.M)
 
 
 def check_quotation(tree, page, text):
@@ -281,8 +283,8 @@ def known(tree, span):
         return all(word in tree.make or word in tree.around or is_file(tree, word) for word in words)
     if re.fullmatch(r'\w+(::\w+)+', span):
         return words[0].startswith(('libc::', 'os::c::')) or tree.has_path(span)
-    if re.fullmatch(r'\w+ \.\w+', span):
-        return words[0] in tree.names and words[1][1:] in tree.names
+    if re.fullmatch(r'[a-z]\w*\.[a-z]\w*', span) and not is_file(tree, span):
+        return all(word in tree.names for word in span.split('.')) or tree.holds(span)
     if re.fullmatch(r"[A-Za-z][\w'-]*(\(\))?", span):
         return is_name(tree, span.rstrip('()')) or is_file(tree, span)
     return is_file(tree, span) or tree.holds(span)
@@ -365,7 +367,7 @@ def named(cell):
     begin = re.findall(r'`([^`]+)` and those that begin so', cell)
     for names in re.findall(LIST + ', with those that begin so', cell):
         begin += spans(names)
-    return set(spans(cell)), tuple(name + '-' for name in begin)
+    return set(spans(cell)), tuple(name + '_' for name in begin)
 
 
 def check_map(tree):
@@ -424,7 +426,7 @@ def check_wrong_answers(tree):
     said = [span for _, block, text in paragraphs(page) for span in spans(text)]
     for edit in sorted(tree.edits.difference(said)):
         fault(page, 'does not name the must-fail edit `%s`' % edit)
-    wrong = [name for crate in WRONG for name in tree.within(crate, ('proofs',)) if name.endswith('-fails')]
+    wrong = [name for crate in WRONG for name in tree.within(crate, ('proofs',)) if name.endswith('_fails')]
     for name in sorted(set(wrong)):
         if said.count(name) < wrong.count(name):
             fault(page, 'does not name the wrong server or reporter of `%s`' % name)
@@ -450,7 +452,7 @@ def check():
     """What is wrong in the tree of the current folder, and how much was looked at."""
     faults.clear()
     tree = Tree()
-    pages, seen = ['README.md'] + sorted(glob.glob('docs/*.md')), 0
+    pages, seen = ['README.md'] + sorted(set(glob.glob('docs/*.md')) - {PORT}), 0
     for page in pages:
         for heading, block, text in paragraphs(page):
             if block:

@@ -18,11 +18,11 @@ map=$(sed -n '/^## The map/,/^[A-Z][a-z]* the left/p' docs/ARCHITECTURE.md | gre
 arrows=0
 while read -r crate _ below; do
     for on in ${below//,/ }; do
-        grep -q -E "^$crate:.* $on( |\$)" crates.txt || fail "the map has an arrow from $crate to $on, and crates.txt has none"
+        grep -q -E "^$crate( staticlib)?:.* $on( |\$)" crates.txt || fail "the map has an arrow from $crate to $on, and crates.txt has none"
         arrows=$((arrows + 1))
     done
 done < <(grep -o -E '[a-z_]+ → [a-z_]+(, [a-z_]+)*' <<<"$map")
-for crate in $(sed -n 's/^\([a-z_]*\):.*/\1/p' crates.txt); do
+for crate in $(sed -n -E 's/^([a-z_]+)( staticlib)?:.*/\1/p' crates.txt); do
     grep -q -E "(^|  )$crate( →|$|  )" <<<"$map" || fail "the map has no crate $crate"
 done
 pages=(README.md packaging/README.md docs/*.md)

@@ -1,13 +1,14 @@
 #!/usr/bin/env python3
 """plain.py [FOLDER]: holds the plain engine to sharing with the quick one only what has no trick in it.
 
-It goes by the code of all crates, not by definitions and laws, which are the same for both. What a crate of the plain engine names of any other crate is
-a type, a constant, or a function of SHARED; and by whatever these call in turn, no function of a crate that has a trick is reached but those of REACHED,
+It goes by the code of all crates, not by definitions and laws, which are the same for both. What a crate of the plain engine names of any other crate, in a
+`use` or where it calls, is a type, a constant, or a function of SHARED; and by whatever these call in turn, no function of a crate that has a trick is reached but those of REACHED,
 and the quick functions over bytes only below the effect on one block. Then the same with one forbidden line put in after the other, each of which must be
 found. Status 0 if all is so, 1 if not."""
 import pathlib, re, sys
 
 ENTRY = 'ndushavire_plain'
+ENTRIES = ['ndushavire::' + ENTRY, 'ndushavire_c::' + ENTRY]  # the library's function, and what C calls
 OWN = 'plain_table plain_lookup plain_vectors plain_questions plain_assignment plain_reading plain_looks plain_answering plain_deciding plain_calling'.split()
 # Numbers in bytes, blocks and the parts of them, one AVP and what a table of kinds says of it, the choices, the effect on one block, the writers.
 SHARED = {
@@ -48,8 +49,38 @@ def plain(text):
     """Without comments, strings and single characters, of which one may be a quote, and what is said of a function before its body."""
     text = re.sub(r"b?'(\\.|[^'\\\n])'", "''", text)
     text = re.sub(r'(?m)//.*$', ' ', re.sub(r'b?"(\\.|[^"\\])*"', '""', text))
-    text = re.sub(r'⌜[^⌝]*⌝', ' ', text)
-    return re.sub(r'(?m)^\s*ghost\s[^;]*;', ' ', text)
+    text = re.sub(r'(?m)^\s*(?:pub\s+)?ghost\s[^;]*;', ' ', text)
+    clauses = re.compile(r'\b(?:requires|ensures)\*?(?:\s+\w+)?\s*(?=\{)')
+    while True:
+        clause = clauses.search(text)
+        if not clause:
+            return text
+        text = text[:clause.start()] + ' ' + text[closed(text, clause.end()):]
+
+
+def closed(text, at):
+    """Where what the brace at this place opens is closed, behind the closing brace."""
+    deep = 0
+    for n in range(at, len(text)):
+        deep += (text[n] == '{') - (text[n] == '}')
+        if deep == 0:
+            return n + 1
+    return len(text)
+
+
+def names_in(use):
+    """The paths that a `use` brings in, each whole: a::{b, c::d} brings a::b and a::c::d."""
+    head, brace, rest = use.partition('{')
+    if not brace:
+        return [use.strip()]
+    parts, deep = [''], 0
+    for letter in rest.rstrip()[:-1]:
+        deep += (letter == '{') - (letter == '}')
+        if letter == ',' and deep == 0:
+            parts.append('')
+        else:
+            parts[-1] += letter
+    return [head.strip() + name for part in parts if part.strip() for name in names_in(part.strip())]
 
 
 class Source:
@@ -60,8 +91,8 @@ class Source:
         inner = [part.replace('.rt', '') for part in inner]
         self.path, self.module = path, '::'.join([self.crate] + [part for part in inner if part not in ('lib', 'main')])
         text = plain(text)
-        self.uses = [' '.join(use.split()) for use in re.findall(r'(?m)^\s*(?:pub\s+)?use\s+([^;]*);', text)]
-        self.broad = [use for use in self.uses if re.search(r'[{*]|\bas\b', use) or '::' not in use]
+        self.uses = [name for use in re.findall(r'(?m)^\s*(?:pub\s+)?use\s+([^;]*);', text) for name in names_in(' '.join(use.split()))]
+        self.broad = [use for use in self.uses if not re.fullmatch(r'\w+(::\w+)+', use) or use.endswith('::self')]
         self.brought = {use.split('::')[-1]: self.whole(use) for use in self.uses if use not in self.broad}
         body = re.sub(r'(?m)^\s*(?:pub\s+)?use\s+[^;]*;', ' ', text)
         self.body = body
@@ -127,13 +158,14 @@ def faults(files):
     for source in own:
         for use in source.broad:
             wrong.append('%s uses more than one name: %s' % (source.path, use))
-        for path in sorted(code.called(source, source.body)):
+        brought = {lower(path) for path in source.brought.values()}
+        for path in sorted(code.called(source, source.body) | {path for path in brought if path in code.functions}):
             crate, _, rest = path.partition('::')
             if not crate.startswith('plain_') and (crate in code.crates or crate == 'std') and rest not in SHARED.get(crate, '').split():
                 wrong.append('%s names %s' % (source.path, path))
     entries = [name for name in code.functions if name.split('::')[-1] == ENTRY]
-    if len(entries) != 1:
-        wrong.append('there are %d functions %s' % (len(entries), ENTRY))
+    if sorted(entries) != ENTRIES:
+        wrong.append('the functions %s are %s' % (ENTRY, ' '.join(entries)))
     starts = [name for name, (source, _) in code.functions.items() if source in own] + entries
     through = code.reached(starts)
     besides = code.reached(starts, EFFECTS)
@@ -188,9 +220,14 @@ def noticed(files):
         'a whole crate by another name': into(at('plain_calling'), 'use calling as first;'),
         'all names of a module': into(at('plain_reading'), 'use requests::walk::*;'),
         'several names at once': into(at('plain_reading'), 'use requests::{walk, read_in};'),
+        'several names, one within another': into(at('plain_reading'), 'use requests::{walk::{self}, read_in};'),
+        'one name of several, called': called('plain_calling', 'use table::{SoundTable, area::{check_area, table_length}};', 'check_area(t, 0)'),
+        'all names of a module, among others': into(at('plain_reading'), 'use requests::{dialect, walk::*};'),
+        'a name of several by another name': into(at('plain_calling'), 'use calling::{Came, call as other};'),
         'a trick behind a quote': into(at('plain_calling'), "const A: u8 = b'\"';\nfn more() { table::check(t, 0); }\nconst B: u8 = b'\"';"),
         'names by eights below what is shared': into('crates/refusals/src/lib.rt', 'pub fn early(t: &[u8]) -> u16 { octets::name::same(t, t); 0 }'),
         'a trick below what is shared': into('crates/refusals/src/lib.rt', 'pub fn early(t: &[u8]) -> u16 { table::check(t, 0); 0 }'),
+        'the quick call for C': {path: text.replace('ndushavire::ndushavire_plain(', 'ndushavire::ndushavire_decide(') for path, text in files.items()},
         'the quick call below the entry': {path: re.sub(r'\bplain_calling::call\b', 'calling::call', text) for path, text in files.items()},
         'the quick answer': called('plain_deciding', '', 'answering::answer(t)'),
         'the whole end of an answer': called('plain_answering', 'use envelope::last;', 'last::put_end(t, t, v)'),

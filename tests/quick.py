@@ -4,11 +4,11 @@
 The crates that changed and those directly above them are proved, the edits of the changed ones are tried, and those PARTs of make test are run whose
 files changed. A part that needs an archive is left out, by name, while an archive would have to be proved first.
 This is not the verdict: a definition that changed can break what stands two storeys above."""
-import fnmatch, functools, os, re, shutil, subprocess, sys
+import fnmatch, functools, glob, os, re, subprocess, sys
 
 ROOM = 'target/quick'
-LIBRARIES = ['ndushavire', 'ndushavire_sh']
-ARCHIVES = ['target/staticlib/lib%s.a' % name for name in LIBRARIES]
+LIBRARIES = ['ndushavire_c', 'ndushavire_sh_c']
+ARCHIVES = ['target/staticlib/lib%s.a' % name[:-len('_c')] for name in LIBRARIES]
 
 
 class Failed(Exception):
@@ -19,10 +19,11 @@ def said(*words, **more):
     return subprocess.run(words, stdout=subprocess.PIPE, stderr=subprocess.DEVNULL, universal_newlines=True, **more).stdout
 
 
-def run(*words, **more):
-    print('make quick: ' + ' '.join(words), flush=True)
-    if subprocess.run(words, **more).returncode != 0:
-        raise Failed(' '.join(words))
+def run(*words, folder='.'):
+    told = ' '.join(words) + (' in ' + folder) * (folder != '.')
+    print('make quick: ' + told, flush=True)
+    if subprocess.run(words, cwd=folder).returncode != 0:
+        raise Failed(told)
 
 
 def base():
@@ -42,29 +43,19 @@ def changed_since(commit):
 
 def crates_in(text):
     lines = (line.split('#')[0] for line in text.split('\n'))
-    return {name.strip(): below.split() for name, below in (line.split(':') for line in lines if ':' in line)}
+    return {head.split()[0]: below.split() for head, below in (line.split(':') for line in lines if ':' in line)}
 
 
 def changed_crates(crates, files, commit):
-    """The crates to prove, and of each the edits to try."""
+    """The crates to prove, and those whose edits are to be tried."""
     before = crates_in(said('git', 'show', commit + ':crates.txt'))
     proved = {name for name in crates if crates[name] != before.get(name)}
-    edits = set()
+    tried = set()
     for file in files:
         name, _, part = file[len('crates/'):].partition('/')
-        if not file.startswith('crates/') or name not in crates:
-            continue
-        if part.startswith('must-fail/'):
-            edits.add((name, os.path.basename(part)))
-        else:
-            proved.add(name)
-    for name in proved:
-        edits |= {(name, edit) for edit in listed('crates/%s/must-fail' % name)}
-    return proved, {edit for edit in edits if os.path.exists('crates/%s/must-fail/%s' % edit)}
-
-
-def listed(folder):
-    return os.listdir(folder) if os.path.isdir(folder) else []
+        if file.startswith('crates/') and name in crates:
+            (tried if part.startswith('must-fail/') else proved).add(name)
+    return proved, {name for name in tried | proved if glob.glob('crates/%s/must-fail/*.edit' % name)}
 
 
 def directly_above(crates, names):
@@ -78,18 +69,10 @@ def below(crates, name):
     return {name}.union(*(below(crates, one) for one in crates.get(name, ())))
 
 
-def try_edits(edits):
-    """rt tries the edits of every crate below, too, so it gets a copy of the crates that has no others; what is proved is not proved again."""
-    shutil.rmtree(ROOM, ignore_errors=True)
-    os.makedirs(ROOM + '/target')
-    shutil.copy('crates.txt', ROOM)
-    shutil.copytree('crates', ROOM + '/crates', symlinks=True, ignore=shutil.ignore_patterns('must-fail'))
-    for made in ('rlib', 'stamp'):
-        os.symlink(os.path.abspath('target/' + made), '%s/target/%s' % (ROOM, made))
-    for name, edit in edits:
-        os.makedirs('%s/crates/%s/must-fail' % (ROOM, name), exist_ok=True)
-        shutil.copy('crates/%s/must-fail/%s' % (name, edit), '%s/crates/%s/must-fail' % (ROOM, name))
-    run('rt', 'must-fail', *sorted({name for name, _ in edits}), cwd=ROOM)
+def check(crates, names):
+    """Each of these, lowest first; rt builds what lies below."""
+    for name in sorted(names, key=lambda name: (len(below(crates, name)), name)):
+        run('rt', 'check', folder='crates/' + name)
 
 
 # ---- parts of make test
@@ -157,12 +140,10 @@ def main():
     print('make quick: %d changed files since %s' % (len(files), said('git', 'log', '-1', '--format=%h %s', commit).strip()), flush=True)
     crates = crates_in(open('crates.txt').read())
     proved, edits = changed_crates(crates, files, commit)
-    run('rt', 'fmt', '--check')
-    if proved:
-        run('rt', 'check', *sorted(proved | directly_above(crates, proved)))
+    run('tests/fmt.sh', 'target/test/fmt')
+    check(crates, proved | directly_above(crates, proved) | edits)
     if edits:
-        run('rt', 'check', *sorted({name for name, _ in edits}))
-        try_edits(edits)
+        run('rt', 'must-fail', *sorted(edits))
     fresh = subprocess.run(['make', '-q', *ARCHIVES], stdout=subprocess.DEVNULL, stderr=subprocess.DEVNULL).returncode == 0
     inside = proved & set().union(*(below(crates, name) for name in LIBRARIES))
     picked = list(touched(sys.argv[1:], files, inside, commit))

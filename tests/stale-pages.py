@@ -55,12 +55,12 @@ def quotations():
 
 
 def names():
-    for name in ('noSuchDefinition', 'no_such_function', 'no-such-theorem', 'calling::no_such_function', 'demands/NoSuch', 'demands/proofs/NoSuch.antt',
+    for name in ('noSuchDefinition', 'no_such_function', 'no-such-theorem', 'no_such_definition.now', 'calling::no_such_function', 'demands/NoSuch', 'demands/proofs/NoSuch.antt',
                  'examples/no-such.c', 'make nosuch', 'make test NOSUCH=1', 'NOSUCH=1', '--no-such-option', 'serve of nothing'):
         spoil('docs/DECISIONS.md', more('\n`%s`' % name), 'names `%s`, and there is no such thing' % name)
-    spoil('docs/PROVED.md', more('\n`demand-1-number`, `-nosuch`'), 'names `demand-1-nosuch`')
-    spoil('docs/DECISIONS.md', more('\n`calling/Serve`: `serve`, `blockOf`'), 'says that `blockOf` stands in `calling/Serve`')
-    spoil('docs/DECISIONS.md', more('\n`serve` and `blockOf` in `calling/specs/Serve.antt`'), 'says that `blockOf` stands in `calling/specs/Serve.antt`')
+    spoil('docs/PROVED.md', more('\n`demand_1_number`, `_nosuch`'), 'names `demand_1_nosuch`')
+    spoil('docs/DECISIONS.md', more('\n`calling/Serve`: `serve`, `block_of`'), 'says that `block_of` stands in `calling/Serve`')
+    spoil('docs/DECISIONS.md', more('\n`serve` and `block_of` in `calling/specs/Serve.antt`'), 'says that `block_of` stands in `calling/specs/Serve.antt`')
     spoil('docs/DECISIONS.md', more('\n`calling`: `seal`'), 'says that `seal` stands in `calling`')
     spoil('docs/PROVED.md', lambda text: text.replace('| `table` | `', '| `table` | `Serve`, `'), 'says that specs/ of `table` has `Serve`')
     spoil('man/answer.1', more('.Fn no_such_function'), 'has `no_such_function`')
@@ -87,7 +87,7 @@ def wrong_answers():
     spoil('docs/PROVED.md', lambda text: text.replace(edit.rpartition('/')[2], 'no_such.edit'), 'names `%s/no_such.edit`' % edit.rpartition('/')[0])
     spoil('crates/table/must-fail/no_such.edit', more(''), 'does not name the must-fail edit `table/must-fail/no_such.edit`')
     for crate in pages.WRONG:
-        name = 'no-such-%s-fails' % crate
+        name = 'no_such_%s_fails' % crate
         spoil('crates/%s/proofs/Lib.antt' % crate, more('%s : ℕ' % name), 'wrong server or reporter of `%s`' % name)
     noticed()
 
@@ -105,7 +105,7 @@ def landings():
 room = os.path.abspath(sys.argv[1])
 os.chdir(os.path.join(os.path.dirname(os.path.abspath(__file__)), '..'))
 shutil.rmtree(room, ignore_errors=True)
-shutil.copytree('.', room, symlinks=True, ignore=shutil.ignore_patterns('.git', 'target', 'stdin', 'stdout', '__pycache__'))
+shutil.copytree('.', room, symlinks=True, ignore=shutil.ignore_patterns('.git', 'target', 'out', 'stdin', 'stdout', '__pycache__'))
 os.chdir(room)
 if pages.check()[0]:
     sys.exit('stale-pages.py: there are faults before anything is spoiled; pages.py says which')
