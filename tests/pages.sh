@@ -1,7 +1,7 @@
 #!/usr/bin/env bash
 # pages.sh: make help has a line for each target and no other; every `make X` that a page names is a target; README.md names the kit that
 # KIT-ID pins and the Rust that reference/Cargo.toml asks for; the map in docs/ARCHITECTURE.md has every crate, and no arrow that crates.txt has not;
-# no line of a page has 200 characters. What the pages quote and name is pages.py's.
+# no line of a page has 200 characters, but in docs/PORT.md, whose tables quote contracts whole. What the pages quote and name is pages.py's.
 . "$(dirname "$0")/script.sh"
 cd "$top"
 targets=$(sed -n 's/^\.PHONY: //p' Makefile | tr ' ' '\n' | sort)
@@ -26,5 +26,7 @@ for crate in $(sed -n -E 's/^([a-z_]+)( staticlib)?:.*/\1/p' crates.txt); do
     grep -q -E "(^|  )$crate( →|$|  )" <<<"$map" || fail "the map has no crate $crate"
 done
 pages=(README.md packaging/README.md docs/*.md)
-! LC_ALL=C.UTF-8 grep -n -E '^.{200}' "${pages[@]}" /dev/null >&2 || fail 'a line has 200 characters'
+for page in "${pages[@]}"; do
+    [ "$page" = docs/PORT.md ] || ! LC_ALL=C.UTF-8 grep -n -E '^.{200}' "$page" >&2 || fail "a line of $page has 200 characters"
+done
 echo "pages.sh: $(wc -l <<<"$targets") targets, each with its line; $arrows arrows; ${#pages[@]} pages"
