@@ -11,11 +11,13 @@ walk() { # CRATE: all below it, each once
     local crate
     for crate in $(uses "$1"); do
         case $below in *" $crate "*) continue ;; esac
+        [ -d "crates/$crate" ] || continue # of the kit
         walk "$crate"
         below+="$crate "
     done
 }
 walk "$name"
+direct=$(uses "$name")
 by_ci=1
 for crate in $below; do
     made=crates/$crate/out/rlib
@@ -29,7 +31,7 @@ if [ -z "$by_ci" ]; then
 fi
 kit=$(dirname "$(rt doc)")
 words=(--extern "std=$kit/rlibs/std.rlib" -L "dependency=$kit/rlibs")
-for crate in $(uses "$name"); do words+=(--extern "$crate=../$crate/out/rlib/$crate.rlib"); done
+for crate in $direct; do words+=(--extern "$crate=../$crate/out/rlib/$crate.rlib"); done
 for crate in $below; do words+=(-L "dependency=../$crate/out/rlib"); done
 mkdir -p out
 "$kit/bin/rattle" build --crate-name "$name" src/lib.rt "${words[@]}" --antt-project "$kit/rattle/logic/antt-project.json" --logic-built "$kit/logic_built" \
