@@ -8,7 +8,7 @@
 - The tables of docs/ARCHITECTURE.md name every theorem of the pages of statements, each in the table of its request, and say in every row what is proved.
 - docs/PROVED.md names every must-fail edit, every wrong server and every wrong reporter.
 - Functions, constants and options of the manual pages are those of the headers and the examples.
-- docs/PORT.md, which says what was spelled and called otherwise with an older kit, is not read. Of docs/LANDINGS.md, which is history, only the newest
+- docs/PORT.md and docs/DESIGN-PASS.md, which say what was spelled, called and written otherwise, are not read. Of docs/LANDINGS.md, which is history, only the newest
   note is read, and there no sentence that tells what was; but that note, and that of each request, tells the check's time."""
 import functools, glob, os, re, sys
 
@@ -73,7 +73,7 @@ SAMPLE = re.compile(r'(sip|tel):\S+|<[\w-]+/?>|\d+ passed, 0 failed')
 # What is made or installed and is not in the tree.
 MADE = ('live', 'cards', 'service', 'target', 'share', '..')
 
-PORT = 'docs/PORT.md'
+PORT = {'docs/PORT.md', 'docs/DESIGN-PASS.md'}
 
 faults = []
 
@@ -452,7 +452,7 @@ def check():
     """What is wrong in the tree of the current folder, and how much was looked at."""
     faults.clear()
     tree = Tree()
-    pages, seen = ['README.md'] + sorted(set(glob.glob('docs/*.md')) - {PORT}), 0
+    pages, seen = ['README.md'] + sorted(set(glob.glob('docs/*.md')) - PORT), 0
     for page in pages:
         for heading, block, text in paragraphs(page):
             if block:

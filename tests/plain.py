@@ -2,7 +2,7 @@
 """plain.py [FOLDER]: holds the plain engine to sharing with the quick one only what has no trick in it.
 
 It goes by the code of all crates, not by definitions and laws, which are the same for both. What a crate of the plain engine names of any other crate, in a
-`use` or where it calls, is a type, a constant, or a function of SHARED; and by whatever these call in turn, no function of a crate that has a trick is reached but those of REACHED,
+`use` or where it calls, as a function or as a method, is a type, a constant, or a function of SHARED; and by whatever these call in turn, no function of a crate that has a trick is reached but those of REACHED,
 and the quick functions over bytes only below the effect on one block. Then the same with one forbidden line put in after the other, each of which must be
 found. Status 0 if all is so, 1 if not."""
 import pathlib, re, sys
@@ -19,10 +19,10 @@ SHARED = {
     'lookup': 'block_found',
     'vectors': 'choice::none mark::spend vector::private vector::read',
     'diameter': 'avp_part data_at present_at read_avp value_of',
-    'reading': 'features::asks features::passes group::gathers group::group_fault kinds::kind_of kinds::needed kinds::row_of kinds::use_in',
-    'requests': 'dialect identities::next_identity places::data_of places::given places::member_of places::value_of walk::refuse',
-    'choices': 'challenge::challenge_of challenge::claim_of choice::authorization choice::location giving::capable giving::faulty giving::plain '
-               'giving::serving plan::finding_of plan::plan_of plan::reply_only types::allows types::is_removal types::type_of',
+    'reading': 'at lacking of features::asks features::passes group::gathers group::group_fault kinds::kind_of kinds::needed kinds::row_of kinds::use_in',
+    'requests': 'dialect identities::next_identity places::data_of places::given places::member_of places::value_of',
+    'choices': 'challenge::challenge_of challenge::finding choice::authorization choice::location giving::capable giving::faulty giving::plain '
+               'giving::serving plan::finding plan::plan plan::reply_only types::allows types::is_removal types::from',
     'assignment': 'naming::meant_by',
     'rewrite': 'change_if',
     'pen': 'put_copy',
@@ -37,9 +37,11 @@ REACHED = {
     'lookup': 'block_found',
     'vectors': 'choice::none mark::mark mark::mark_at mark::spend vector::confidentiality_key vector::integrity_key vector::part vector::private '
                'vector::rand_autn vector::read vector::xres',
-    'requests': 'dialect identities::next_identity places::data_of places::given places::member_of places::value_of places::value_of_place walk::refuse',
+    'requests': 'dialect identities::next_identity places::data_of places::given places::member_of places::value_of places::value_of_place',
     'questions': '', 'assignment': 'naming::meant_by', 'answering': '', 'deciding': '', 'calling': '',
 }
+# Methods of one name and several types: whose it is where it is called on this.
+RECEIVERS = {('numbers', 'plan'): 'choices::plan::plan'}
 # The effect on one block, below which alone the sum as the machine has its words, names by eights of bytes, and masks are.
 EFFECTS = {'rewrite::change_if', 'vectors::mark::spend'}
 QUICK = re.compile(r'octets::(sum::|name::(?!smaller$)|run::(mask|set_bits|set_past)$|number::le)')
@@ -50,6 +52,8 @@ def plain(text):
     text = re.sub(r"b?'(\\.|[^'\\\n])'", "''", text)
     text = re.sub(r'(?m)//.*$', ' ', re.sub(r'b?"(\\.|[^"\\])*"', '""', text))
     text = re.sub(r'(?m)^\s*(?:pub\s+)?ghost\s[^;]*;', ' ', text)
+    # what an attribute tells the prover
+    text = re.sub(r'#!?\[tactic\((?:[^()]|\([^()]*\))*\)\]', ' ', text)
     clauses = re.compile(r'\b(?:requires|ensures)\*?(?:\s+\w+)?\s*(?=\{)')
     while True:
         clause = clauses.search(text)
@@ -98,6 +102,7 @@ class Source:
         self.body = body
         parts = re.split(r'\bfn\s+(\w+)', body)
         self.functions = dict(zip(parts[1::2], parts[2::2]))
+        self.methods = set(re.findall(r'\bfn\s+(\w+)\s*(?:<[^>(]*>)?\(\s*(?:&\s*)?(?:mut\s+)?self\b', body))
 
     def whole(self, path):
         return re.sub(r'^crate\b', self.crate, path)
@@ -116,6 +121,10 @@ class Code:
         self.crates = {source.crate for source in self.sources}
         self.modules = {source.module for source in self.sources}
         self.functions = {source.module + '::' + name: (source, said) for source in self.sources for name, said in source.functions.items()}
+        self.methods = {}
+        for source in self.sources:
+            for name in source.methods:
+                self.methods.setdefault(name, set()).add(source.module + '::' + name)
 
     def called(self, source, text):
         """The functions that a text names, by their whole paths: called, or taken by name behind a path."""
@@ -135,6 +144,11 @@ class Code:
             whole = lower(whole)
             if whole in self.functions or whole.split('::')[0] not in self.crates or (rest and whole not in self.modules):
                 found.add(whole)
+        # A method counts as each function of its name that takes a self, of the source's own crate if that has one.
+        for receiver, name in re.findall(r'(\w+)\s*\.\s*([a-z_]\w*)\s*\(', text):
+            whose = self.methods.get(name, set())
+            mine = {path for path in whose if path.split('::')[0] == source.crate}
+            found |= {RECEIVERS[receiver, name]} if (receiver, name) in RECEIVERS else mine or whose
         return {path for path in found if '::' in path}
 
     def reached(self, names, but=()):
@@ -201,10 +215,12 @@ def noticed(files):
         'the question of a LIR': called('plain_deciding', '', 'questions::location::locate(t, 1, t)'),
         'the question of a MAR': called('plain_deciding', '', 'questions::authentication::authenticate(t)'),
         'the plan of a SAR': called('plain_deciding', 'use assignment::assigning;', 'assigning::plan_sar(t, 1, t, s, t, t)'),
+        'the plan of a SAR by a method': called('plain_deciding', '', 's.plan(t, 1, t)'),
+        'the look at a record by a method': called('plain_assignment', '', 'asks.look_at(t)'),
         'the survey of the records named': called('plain_assignment', '', 'naming::survey_all(t)'),
         'the survey of the records owned': called('plain_assignment', '', 'assignment::owned::survey_owned(t)'),
         'the effects on a whole set at once': called('plain_assignment', 'use assignment::naming::settle_named;', 'settle_named(t, 1, t, 0, t)'),
-        'the walk': called('plain_reading', '', 'walk::walk_message(t, d, p)'),
+        'the walk': called('plain_reading', 'use requests::walk;', 'walk::walk_message(t, d, p)'),
         'the whole reading': called('plain_calling', 'use requests::read_in;', 'read_in(t, d, p)'),
         'the rules of one AVP in one': called('plain_reading', 'use reading::rules;', 'rules::rule_at(t, d, p, a, 1)'),
         'the Session-Id of the quick walk': called('plain_looks', '', 'requests::session(t)'),

@@ -6,7 +6,7 @@ ghost use Rattle.answer.specs.Said.{SaidFits, Said, SaidTo};
 
 use ndushavire::word;
 
-// An answer stands at the front of out already; a refusal is written there.
+// An answer stands at the front of out already; a refusal is written there. Number 0 is an answer in the word of the C interface.
 fn put_said(out: &mut [u8], w: u64) -> usize
     requires { (30 ≤ length out.old) × SaidFits w (length out.old) }
     ensures { (result ≤ length out.new) × Said w out.old out.new result }

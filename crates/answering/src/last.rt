@@ -23,7 +23,6 @@ pub fn put_rest(
     ensures { (result ≤ length out.old)
         × Wrote (rest_bytes req.now t.now file.now v.now g) out.old out.new result }
 {
-    let verdict = g.verdict;
     let a = given::put_given(out, t, file, v, count, g);
-    a + envelope::last::put_end(&mut out[a..], req, verdict)
+    a + envelope::last::put_end(&mut out[a..], req, g.verdict)
 }

@@ -39,14 +39,16 @@ fn put_body(
         × Wrote (body_bytes ground.dialect.terms req.now t.now file.now v.now g) out.old
         out.new result }
 {
-    let verdict = g.verdict;
-    let result = verdict.result;
-    let count = ground.count;
-    let dialect = ground.dialect;
-    let terms = dialect.terms;
-    let wanted = ground.wanted;
-    let a = front::put_top(out, req, t, count, terms, result, wanted.listed);
-    a + last::put_rest(&mut out[a..], req, t, file, v, count, g)
+    let a = front::put_top(
+        out,
+        req,
+        t,
+        ground.count,
+        ground.dialect.terms,
+        g.verdict.result,
+        ground.wanted.listed,
+    );
+    a + last::put_rest(&mut out[a..], req, t, file, v, ground.count, g)
 }
 
 // The answer to a request, over a sound table, with what a decision gives it to carry. It is written where it stays, the body first,
@@ -67,9 +69,7 @@ pub fn answer(
         × Wrote (answer_bytes ground.dialect.terms req.now t.now file.now v.now g) out.old
         out.new result }
 {
-    let verdict = g.verdict;
-    let result = verdict.result;
     let n = 20 + put_body(&mut out[20..], req, t, file, v, ground, g);
-    header::put_header(out, req, result, n);
+    header::put_header(out, req, g.verdict.result, n);
     n
 }

@@ -1,11 +1,10 @@
 -- The turns of the loops over a SAR's identities, and what there are of them.
+use Rattle.std.specs.Prelude.{Option, Some, None, Ok, Err}
 use Rattle.octets.specs.Standard.{ℕ, ◌+◌, ◌*◌, ◌≤◌, List, [], ◌∷◌, ◌++◌, Bool, true, false, ◌&&◌, ◌||◌, ◌≡◌, refl, sym, ap, ◌∙◌, arith, length, drop}
 use Rattle.octets.specs.Standard.{ne_eqb}
 use Rattle.table.specs.SoundTable.{SoundTable}
 use Rattle.table.proofs.Sound.{sound_size, sound_few}
 use Rattle.lookup.specs.Find.{first_from, public_is, find_public}
-use Rattle.lookup.specs.declared.Found.{Found}
-use Rattle.lookup.specs.declared.Found.TheVariants.{At, Nothing}
 use Rattle.lookup.proofs.First.{FirstAt, first_stands}
 use Rattle.blocks.specs.Changed.{is_one}
 use Rattle.lookup.proofs.Halves.{find_alike}
@@ -26,19 +25,19 @@ use Rattle.diameter.specs.AvpAt.{data_at}
 use Rattle.diameter.proofs.Reading.{walk_past}
 use Rattle.reading.specs.Kinds.{public_identity}
 use Rattle.reading.specs.Verdicts.{fault_at, lack_of}
+use Rattle.reading.specs.declared.Verdict.{Verdict}
 use Rattle.diameter.specs.Message.{body_of}
 use Rattle.requests.specs.Request.{identities}
 use Rattle.requests.specs.Identity.{places_from}
-use Rattle.requests.specs.declared.identities.Next.{Next}
+use Rattle.requests.specs.declared.identities.Identity.{Identity}
 use Rattle.requests.proofs.Naming.{no_place, first_place, named_none, named_first}
 use Rattle.choices.specs.declared.types.AssignmentType.{AssignmentType}
 use Rattle.choices.specs.declared.plan.Survey.{Survey}
 use Rattle.assignment.specs.Assignment.{meant_by, find_all, numbers_of}
 use Rattle.assignment.specs.Survey.{clean, both, look_found, found_survey}
-use Rattle.assignment.specs.declared.Meant.TheVariants.{Fault, Owned, Listed}
+use Rattle.assignment.specs.declared.Meant.TheVariants.{Owned, Listed}
 use Rattle.assignment.proofs.Surveys.{survey_cons, both_assoc, both_clean}
 use Rattle.requests.specs.NextIdentity as identity
-use Rattle.requests.specs.declared.identities.Next.TheVariants as next
 
 -- the identities from a place on
 unfoldable pub rest_of : List ℕ → ℕ → List (List ℕ)
@@ -56,26 +55,22 @@ module _ (t owner server : List ℕ) (kind : AssignmentType) (count : ℕ) (s : 
   survey_start e = rw e
 
   module _ (at : ℕ) (seen whole : Survey) (left : both seen (found_survey t owner server kind (find_all t count (rest_of s at))) ≡ whole) where
-    pub survey_end : length s ≤ at → seen ≡ whole
-    unfolding find_all
-    survey_end h = sym (both_clean t owner server kind seen) ∙ rw (rest_past s at h) at left
-
-    module _ (r : Next) (n : identity.Named s at r) where
-      pub survey_none : r ≡ next.Nothing → seen ≡ whole
+    module _ (r : Option Identity) (n : identity.Named s at r) where
+      pub survey_none : r ≡ None → seen ≡ whole
       unfolding find_all rest_of
       survey_none d = sym (both_clean t owner server kind seen) ∙ rw (named_none s at r n d) at left
 
-      pub survey_turn : (place past : ℕ) {name : List ℕ} {f : Found} {look seen' : Survey} → r ≡ next.At place past → name ≡ data_at s place
+      pub survey_turn : (i : Identity) {name : List ℕ} {f : Option ℕ} {look seen' : Survey} → r ≡ Some i → name ≡ data_at s i.place
           → f ≡ find_public t count name
           → look ≡ look_found t f owner server kind → seen' ≡ both seen look
-          → both seen' (found_survey t owner server kind (find_all t count (rest_of s past))) ≡ whole
+          → both seen' (found_survey t owner server kind (find_all t count (rest_of s i.past))) ≡ whole
       unfolding find_all rest_of
-      survey_turn place past {name} {f} {look} {seen'} d en ef el es =
+      survey_turn i {name} {f} {look} {seen'} d en ef el es =
           rw (es, el, ef, en)
-          (both_assoc seen (look_found t (find_public t count (data_at s place)) owner server kind)
-          (found_survey t owner server kind (find_all t count (rest_of s past)))
-          ∙ ap (both seen) (sym (survey_cons t owner server kind (find_public t count (data_at s place)) (find_all t count (rest_of s past))))
-          ∙ (rw (named_first s at r n place past d) at left))
+          (both_assoc seen (look_found t (find_public t count (data_at s i.place)) owner server kind)
+          (found_survey t owner server kind (find_all t count (rest_of s i.past)))
+          ∙ ap (both seen) (sym (survey_cons t owner server kind (find_public t count (data_at s i.place)) (find_all t count (rest_of s i.past))))
+          ∙ (rw (named_first s at r n i d) at left))
 
 -- What is found in a table with a found record changed is what was found.
 find_kept : (x y : List ℕ) (count : ℕ) → SoundTable x count → Keeping x y count → (avps : List (List ℕ)) → find_all y count avps ≡ find_all x count avps
@@ -85,15 +80,15 @@ find_kept x y count sound keeping (a ∷ avps) =
     rw (find_alike y x count (data_of a) (keeping_public x y count keeping sound), find_kept x y count sound keeping avps)
 
 -- One that was found is reached with its set, and no header.
-found_later : (p : ℕ → Bool) (count : ℕ) (f : Found) → first_from p count 1 ≡ f → is_one (numbers_of (f ∷ [])) 0 ≡ false
+found_later : (p : ℕ → Bool) (count : ℕ) (f : Option ℕ) → first_from p count 1 ≡ f → is_one (numbers_of (f ∷ [])) 0 ≡ false
 unfolding numbers_of is_one
-found_later p count (At k) e = let s : FirstAt p count 1 k = first_stands p count 1 k e in rw (ne_eqb 0 k (omega (arith, s.from)))
-found_later p count Nothing e = refl
+found_later p count (Some k) e = let s : FirstAt p count 1 k = first_stands p count 1 k e in rw (ne_eqb 0 k (omega (arith, s.from)))
+found_later p count None e = refl
 
-numbers_cons : (f : Found) (fs : List Found) → numbers_of (f ∷ fs) ≡ numbers_of (f ∷ []) ++ numbers_of fs
+numbers_cons : (f : Option ℕ) (fs : List (Option ℕ)) → numbers_of (f ∷ fs) ≡ numbers_of (f ∷ []) ++ numbers_of fs
 unfolding numbers_of
-numbers_cons (At k) fs = refl
-numbers_cons Nothing fs = refl
+numbers_cons (Some k) fs = refl
+numbers_cons None fs = refl
 
 none_reached : (change : List ℕ → List ℕ) (x : List ℕ) (count : ℕ) → SoundTable x count → x ≡ after_of x count (reaches x []) change
 unfolding reaches
@@ -104,15 +99,15 @@ module _ (change : List ℕ → List ℕ) (keeps : Keeps change) (x : List ℕ) 
   size : length x ≡ 512 * (count + 1)
   size = sound_size x count sound
 
-  abbrev next_table : Found → List ℕ
+  abbrev next_table : Option ℕ → List ℕ
   next_table f = after_of x count (reaches x (numbers_of (f ∷ []))) change
 
-  found_keeping : (p : ℕ → Bool) (f : Found) → first_from p count 1 ≡ f → Keeping x (next_table f) count
+  found_keeping : (p : ℕ → Bool) (f : Option ℕ) → first_from p count 1 ≡ f → Keeping x (next_table f) count
   found_keeping p f e =
       after_keeping x count change size (reaches x (numbers_of (f ∷ []))) keeps (reaches_zero x count sound (numbers_of (f ∷ [])) ∙ found_later p count f e)
       (reaches_closed x (numbers_of (f ∷ [])))
 
-  found_turn : (p : ℕ → Bool) (f : Found) → first_from p count 1 ≡ f → (fs : List Found)
+  found_turn : (p : ℕ → Bool) (f : Option ℕ) → first_from p count 1 ≡ f → (fs : List (Option ℕ))
       → after_of (next_table f) count (reaches (next_table f) (numbers_of fs)) change ≡ after_of x count (reaches x (numbers_of (f ∷ fs))) change
   found_turn p f e fs =
       after_choice (next_table f) count (reaches (next_table f) (numbers_of fs)) (reaches x (numbers_of fs)) change
@@ -126,12 +121,12 @@ module _ (change : List ℕ → List ℕ) (keeps : Keeps change) (x : List ℕ) 
     unfolding find_all numbers_of
     ended h = none_reached change x count sound ∙ rw (rest_past s at h) at left
 
-    module _ (r : Next) (n : identity.Named s at r) where
-      none_left : r ≡ next.Nothing → x ≡ whole
+    module _ (r : Option Identity) (n : identity.Named s at r) where
+      none_left : r ≡ None → x ≡ whole
       unfolding find_all numbers_of rest_of
       none_left d = none_reached change x count sound ∙ rw (named_none s at r n d) at left
 
-      module _ (place past : ℕ) {m : List ℕ} {f : Found} {y : List ℕ} (d : r ≡ next.At place past) (em : m ≡ data_at s place) (ef : f ≡ find_public x count m)
+      module _ (i : Identity) {m : List ℕ} {f : Option ℕ} {y : List ℕ} (d : r ≡ Some i) (em : m ≡ data_at s i.place) (ef : f ≡ find_public x count m)
           (ey : y ≡ next_table f) where
         stood : first_from (public_is x m) count 1 ≡ f
         unfolding find_public
@@ -140,11 +135,11 @@ module _ (change : List ℕ → List ℕ) (keeps : Keeps change) (x : List ℕ) 
         keeping : Keeping x (next_table f) count
         keeping = found_keeping (public_is x m) f stood
 
-        turned : after_of y count (reaches y (numbers_of (find_all y count (rest_of s past)))) change ≡ whole
+        turned : after_of y count (reaches y (numbers_of (find_all y count (rest_of s i.past)))) change ≡ whole
         unfolding find_all rest_of
         turned =
-            rw (ey, find_kept x (next_table f) count sound keeping (rest_of s past))
-            (found_turn (public_is x m) f stood (find_all x count (rest_of s past)) ∙ rw (ef, em) ((rw (named_first s at r n place past d) at left)))
+            rw (ey, find_kept x (next_table f) count sound keeping (rest_of s i.past))
+            (found_turn (public_is x m) f stood (find_all x count (rest_of s i.past)) ∙ rw (ef, em) ((rw (named_first s at r n i d) at left)))
 
         turned_sound : SoundTable y count
         turned_sound = rw ey (keeping_says x (next_table f) count keeping sound)
@@ -153,7 +148,7 @@ module _ (change : List ℕ → List ℕ) (keeps : Keeps change) (x : List ℕ) 
         turned_counts =
             rw (← turned, ey)
             (both_counts change keeps x count size (reaches x (numbers_of (f ∷ [])))
-            (reaches (next_table f) (numbers_of (find_all (next_table f) count (rest_of s past)))) count (omega arith))
+            (reaches (next_table f) (numbers_of (find_all (next_table f) count (rest_of s i.past)))) count (omega arith))
 
 -- The same of settling, as the loop has it.
 module _ (x : List ℕ) (count : ℕ) (sound : SoundTable x count) (state : ℕ) (name : List ℕ) (fits : Fitting state name) (s : List ℕ) (at : ℕ) {whole : List ℕ}
@@ -164,52 +159,53 @@ module _ (x : List ℕ) (count : ℕ) (sound : SoundTable x count) (state : ℕ)
   pub settle_end : length s ≤ at → x ≡ whole
   settle_end = ended (settled state name) keeps x count sound s at left
 
-  module _ (r : Next) (n : identity.Named s at r) where
-    pub settle_none : r ≡ next.Nothing → x ≡ whole
+  module _ (r : Option Identity) (n : identity.Named s at r) where
+    pub settle_none : r ≡ None → x ≡ whole
     settle_none = none_left (settled state name) keeps x count sound s at left r n
 
-    module _ (place past : ℕ) {m : List ℕ} {f : Found} {y : List ℕ} (d : r ≡ next.At place past) (em : m ≡ data_at s place) (ef : f ≡ find_public x count m)
+    module _ (i : Identity) {m : List ℕ} {f : Option ℕ} {y : List ℕ} (d : r ≡ Some i) (em : m ≡ data_at s i.place) (ef : f ≡ find_public x count m)
         (ey : y ≡ after_of x count (reaches x (numbers_of (f ∷ []))) (settled state name)) where
-      pub settle_turn : after_of y count (reaches y (numbers_of (find_all y count (rest_of s past)))) (settled state name) ≡ whole
-      settle_turn = turned (settled state name) keeps x count sound s at left r n place past d em ef ey
+      pub settle_turn : after_of y count (reaches y (numbers_of (find_all y count (rest_of s i.past)))) (settled state name) ≡ whole
+      settle_turn = turned (settled state name) keeps x count sound s at left r n i d em ef ey
 
       pub settle_sound : SoundTable y count
-      settle_sound = turned_sound (settled state name) keeps x count sound s at left r n place past d em ef ey
+      settle_sound = turned_sound (settled state name) keeps x count sound s at left r n i d em ef ey
 
       pub settle_counts : (c : ℕ) {e w : ℕ} → e ≡ altered_up_to x y count → c + altered_up_to x whole count ≡ w → c + e + altered_up_to y whole count ≡ w
-      settle_counts c {e} h sum = omega (arith, h, sum, turned_counts (settled state name) keeps x count sound s at left r n place past d em ef ey)
+      settle_counts c {e} h sum = omega (arith, h, sum, turned_counts (settled state name) keeps x count sound s at left r n i d em ef ey)
 
       pub settle_few : (c : ℕ) {e : ℕ} (t : List ℕ) → e ≡ altered_up_to x y count → c + altered_up_to x whole count ≡ altered_up_to t whole count → c + e ≤ 4096
       settle_few c {e} t h sum = sum_few t y whole count (c + e) (settle_counts c h sum) (sound_few x count sound)
 
 -- Whom the identities mean.
-module _ (s : List ℕ) (removal named : Bool) (r : Next) (n : identity.Named s 20 r) where
-  pub means_owned : r ≡ next.Nothing → (removal && named) ≡ true → Owned ≡ meant_by removal named (places_from 20 (body_of s))
+module _ (s : List ℕ) (removal named : Bool) (r : Option Identity) (n : identity.Named s 20 r) where
+  pub means_owned : r ≡ None → (removal && named) ≡ true → Ok Owned ≡ meant_by removal named (places_from 20 (body_of s))
   unfolding meant_by
   means_owned d e = rw (no_place s 20 r n d, e)
 
-  pub means_none : r ≡ next.Nothing → (removal && named) ≡ false → Fault (lack_of public_identity) ≡ meant_by removal named (places_from 20 (body_of s))
+  pub means_none : {v : Verdict} → r ≡ None → (removal && named) ≡ false → v ≡ lack_of public_identity
+      → Err v ≡ meant_by removal named (places_from 20 (body_of s))
   unfolding meant_by
-  means_none d e = rw (no_place s 20 r n d, e)
+  means_none d e f = rw (no_place s 20 r n d, e, f)
 
-  module _ (place past : ℕ) (d : r ≡ next.At place past) where
-    pub means_removal : removal ≡ true → Listed place ≡ meant_by removal named (places_from 20 (body_of s))
+  module _ (i : Identity) (d : r ≡ Some i) where
+    pub means_removal : removal ≡ true → Ok (Listed i.place) ≡ meant_by removal named (places_from 20 (body_of s))
     unfolding meant_by
-    means_removal e = rw (first_place s 20 r n place past d, e) (go (places_from past (walk (drop past s))))
+    means_removal e = rw (first_place s 20 r n i d, e) (go (places_from i.past (walk (drop i.past s))))
       where
-        go : (others : List ℕ) → Listed place ≡ meant_by true named (place ∷ others)
+        go : (others : List ℕ) → Ok (Listed i.place) ≡ meant_by true named (i.place ∷ others)
         go [] = refl
         go (q ∷ others) = refl
 
-    module _ (q : Next) (m : identity.Named s past q) where
-      pub means_one : q ≡ next.Nothing → Listed place ≡ meant_by removal named (places_from 20 (body_of s))
+    module _ (q : Option Identity) (m : identity.Named s i.past q) where
+      pub means_one : q ≡ None → Ok (Listed i.place) ≡ meant_by removal named (places_from 20 (body_of s))
       unfolding meant_by
-      means_one g = rw (first_place s 20 r n place past d, no_place s past q m g)
+      means_one g = rw (first_place s 20 r n i d, no_place s i.past q m g)
 
-      pub means_second : (place2 past2 : ℕ) → q ≡ next.At place2 past2 → removal ≡ false
-          → Fault (fault_at 5009 place2) ≡ meant_by removal named (places_from 20 (body_of s))
+      pub means_second : (second : Identity) {v : Verdict} → q ≡ Some second → removal ≡ false → v ≡ fault_at 5009 second.place
+          → Err v ≡ meant_by removal named (places_from 20 (body_of s))
       unfolding meant_by
-      means_second place2 past2 g e = rw (first_place s 20 r n place past d, first_place s past q m place2 past2 g, e)
+      means_second second g e f = rw (first_place s 20 r n i d, first_place s i.past q m second g, e, f)
 
 pub settle_start : (t : List ℕ) (count : ℕ) (s : List ℕ) (state : ℕ) (name : List ℕ)
     → after_of t count (reaches t (numbers_of (find_all t count (rest_of s 20)))) (settled state name)
@@ -221,13 +217,13 @@ settle_start t count s state name = refl
 pub change_fits : (state : ℕ) (name : List ℕ) {c : Change} → c ≡ Settled state → Fitting state name → ChangeFits c name
 change_fits state name e f = rw e f
 
-module _ (t : List ℕ) (count : ℕ) (f : Found) (state : ℕ) (name : List ℕ) where
-  pub found_settled : (k : ℕ) {c : Change} {y : List ℕ} → f ≡ At k → c ≡ Settled state → y ≡ after_of t count (reaches t (k ∷ [])) (change_of c name)
+module _ (t : List ℕ) (count : ℕ) (f : Option ℕ) (state : ℕ) (name : List ℕ) where
+  pub found_settled : (k : ℕ) {c : Change} {y : List ℕ} → f ≡ Some k → c ≡ Settled state → y ≡ after_of t count (reaches t (k ∷ [])) (change_of c name)
       → y ≡ after_of t count (reaches t (numbers_of (f ∷ []))) (settled state name)
   unfolding numbers_of change_of
   found_settled k e g h = rw e (h ∙ rw g)
 
-  pub found_none : SoundTable t count → f ≡ Nothing → t ≡ after_of t count (reaches t (numbers_of (f ∷ []))) (settled state name)
+  pub found_none : SoundTable t count → f ≡ None → t ≡ after_of t count (reaches t (numbers_of (f ∷ []))) (settled state name)
   unfolding numbers_of
   found_none sound e = rw e (none_reached (settled state name) t count sound)
 

@@ -116,6 +116,12 @@ module _ (x : List ℕ) (count : ℕ) (user : List ℕ) (state : ℕ) (name : Li
         ∙ sym is) z
         (put ∙ rw by) e d
 
+    -- the same of block k, which is the next one
+    pub owned_next : (k n : ℕ) {b z : List ℕ} {u : Bool} {c : Change} {e : ℕ} → k ≡ i + 1 → n ≡ k → i < count → b ≡ block_of y k → u ≡ owned_here b user
+        → c ≡ Settled state → z ≡ cond u (changed_in y k (change_of c name)) y → e ≡ differ y z
+        → Going x count (reaches x (owned_up_to x user count)) (settled state name) n z (altered + e)
+    owned_next k n p q = rw (q, p) owned_turn
+
     pub owned_end : count ≤ i → i ≤ count → y ≡ after_of x count (reaches x (owned_up_to x user count)) (settled state name)
     owned_end = going_end x count picked (settled state name) keeps size i y altered going
 

@@ -1,10 +1,9 @@
 -- Laws of what is seen of a SAR's records: one identity more, one block more.
+use Rattle.std.specs.Prelude.{Option, Some, None}
 use Rattle.octets.specs.Standard.{ℕ, suc, List, [], ◌∷◌, ◌++◌, append-nil, Bool, true, false, not, ◌&&◌, ◌||◌, and_assoc, and-true, or_assoc}
 use Rattle.octets.specs.Standard.{or-false, ◌≡◌, refl, sym}
 use Rattle.blocks.specs.Blocks.{block_of}
 use Rattle.table.specs.Named.{private_at}
-use Rattle.lookup.specs.declared.Found.{Found}
-use Rattle.lookup.specs.declared.Found.TheVariants.{At, Nothing}
 use Rattle.choices.specs.declared.types.AssignmentType.{AssignmentType}
 use Rattle.choices.specs.declared.plan.Survey.{Survey}
 use Rattle.assignment.specs.Assignment.{every, is_empty, numbers_of, owned_here, owned_up_to, own_at, stores_at, fits_at, right_at, survey_of}
@@ -32,11 +31,11 @@ some_append (x ∷ xs) ys = refl
 
 module _ (t owner server : List ℕ) (kind : AssignmentType) where
   -- One identity more.
-  pub survey_cons : (f : Found) (fs : List Found)
+  pub survey_cons : (f : Option ℕ) (fs : List (Option ℕ))
       → found_survey t owner server kind (f ∷ fs) ≡ both (look_found t f owner server kind) (found_survey t owner server kind fs)
   unfolding survey_of look_found look_at every numbers_of own_at stores_at fits_at right_at private_at
-  survey_cons (At k) fs = refl
-  survey_cons Nothing fs = refl
+  survey_cons (Some k) fs = refl
+  survey_cons None fs = refl
 
   -- None left.
   pub both_clean : (a : Survey) → both a (found_survey t owner server kind []) ≡ a

@@ -1,16 +1,15 @@
 -- "SAR."
 use Rattle.std.specs.Prelude.{ℕ, zero, suc, List, [], ◌∷◌, ◌++◌, map, Bool, true, false, cond, not, ◌&&◌, ◌||◌, eqb, ltb}
+use Rattle.std.specs.Prelude.{Option, Some, None, Result, Ok, Err}
 use Rattle.octets.specs.Name.{same}
 use Rattle.record.specs.Fields.{private_of, server_of, server_size, state_of}
 use Rattle.blocks.specs.Blocks.{block_of}
 use Rattle.table.specs.Named.{private_at}
 use Rattle.lookup.specs.Find.{is_at, find_public, find_private}
-use Rattle.lookup.specs.declared.Found.{Found}
-use Rattle.lookup.specs.declared.Found.TheVariants.{At, Nothing}
 use Rattle.diameter.specs.Avp.{data_of}
 use Rattle.reading.specs.Kinds.{public_identity}
-use Rattle.reading.specs.Verdicts.{fault_at}
-use Rattle.reading.specs.Verdicts.{lack_of}
+use Rattle.reading.specs.Verdicts.{fault_at, lack_of}
+use Rattle.reading.specs.declared.Verdict.{Verdict}
 use Rattle.choices.specs.Types.{is_removal, allowed}
 use Rattle.choices.specs.Given.{given_fault}
 use Rattle.choices.specs.Plans.{finding_of, only, plan_of}
@@ -20,7 +19,7 @@ use Rattle.choices.specs.declared.plan.Survey.{Survey}
 use Rattle.choices.specs.declared.plan.Plan.{Plan}
 use Rattle.lookup.specs.Find.{block_found}
 use Rattle.assignment.specs.declared.Meant.{Meant}
-use Rattle.assignment.specs.declared.Meant.TheVariants.{Fault, Owned, Listed}
+use Rattle.assignment.specs.declared.Meant.TheVariants.{Owned, Listed}
 
 -- What a SAR says: its numbers, its server name, the User-Name (empty where none is given), the identities (the AVPs themselves) and their places
 pub record Assignment : Type 0 where
@@ -30,12 +29,16 @@ pub record Assignment : Type 0 where
   pub identities : List (List ℕ)
   pub places : List ℕ
 
+-- whom a SAR means, or its fault
+abbrev pub Means : Type 0
+Means = Result Meant Verdict
+
 -- "Others need exactly one identity: none B5005 for 601, more B5009 on the second. A removal without identity needs a User-Name (else B5005 for 601) and means
 -- its records not in state 0."
-unfoldable pub meant_by : Bool → Bool → List ℕ → Meant
-meant_by removal named [] = cond (removal && named) Owned (Fault (lack_of public_identity))
-meant_by removal named (p ∷ []) = Listed p
-meant_by removal named (p ∷ (q ∷ others)) = cond removal (Listed p) (Fault (fault_at 5009 q))
+unfoldable pub meant_by : Bool → Bool → List ℕ → Means
+meant_by removal named [] = cond (removal && named) (Ok Owned) (Err (lack_of public_identity))
+meant_by removal named (p ∷ []) = Ok (Listed p)
+meant_by removal named (p ∷ (q ∷ others)) = cond removal (Ok (Listed p)) (Err (fault_at 5009 q))
 
 -- a test holds of all
 unfoldable pub every : {X : Type 0} → (X → Bool) → List X → Bool
@@ -47,16 +50,16 @@ is_empty [] = true
 is_empty (x ∷ xs) = false
 
 -- the records of the named identities, and the blocks of those that were found
-unfoldable pub find_all : List ℕ → ℕ → List (List ℕ) → List Found
+unfoldable pub find_all : List ℕ → ℕ → List (List ℕ) → List (Option ℕ)
 find_all t count avps = map (λ (a : List ℕ). find_public t count (data_of a)) avps
 
-unfoldable pub numbers_of : List Found → List ℕ
+unfoldable pub numbers_of : List (Option ℕ) → List ℕ
 numbers_of [] = []
-numbers_of (At k ∷ fs) = k ∷ numbers_of fs
-numbers_of (Nothing ∷ fs) = numbers_of fs
+numbers_of (Some k ∷ fs) = k ∷ numbers_of fs
+numbers_of (None ∷ fs) = numbers_of fs
 
 -- the block of the first identity's record, 0 where there is none
-abbrev pub first_of : List Found → ℕ
+abbrev pub first_of : List (Option ℕ) → ℕ
 first_of [] = 0
 first_of (f ∷ fs) = block_found f
 
@@ -102,7 +105,7 @@ unfoldable pub owner_by : List ℕ → ℕ → Bool → List ℕ → List ℕ
 owner_by t first named user = cond named user (private_at t first)
 
 module _ (t : List ℕ) (count : ℕ) (s : Assignment) where
-  abbrev pub found : List Found
+  abbrev pub found : List (Option ℕ)
   found = find_all t count s.identities
 
   unfoldable pub named_survey : Survey
@@ -114,10 +117,10 @@ module _ (t : List ℕ) (count : ℕ) (s : Assignment) where
   owned_survey = survey_of t s.user s.server s.numbers.kind (user_known t count s.numbers.named s.user) (owned_up_to t s.user count)
 
   -- the plan, by whom the SAR means
-  unfoldable pub assign_meant : Meant → Plan
-  assign_meant (Fault v) = only (given_fault v)
-  assign_meant Owned = plan_of (finding_of owned_survey s.numbers.kind) s.numbers 0 true
-  assign_meant (Listed place) = plan_of (finding_of named_survey s.numbers.kind) s.numbers (first_of found) false
+  unfoldable pub assign_meant : Means → Plan
+  assign_meant (Err v) = only (given_fault v)
+  assign_meant (Ok Owned) = plan_of (finding_of owned_survey s.numbers.kind) s.numbers 0 true
+  assign_meant (Ok (Listed place)) = plan_of (finding_of named_survey s.numbers.kind) s.numbers (first_of found) false
 
   unfoldable pub assign : Plan
   assign = assign_meant (meant_by (is_removal s.numbers.kind) s.numbers.named s.places)

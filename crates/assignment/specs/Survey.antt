@@ -1,11 +1,9 @@
 -- What the code sees of the records of a SAR, one after the other.
-use Rattle.std.specs.Prelude.{List, ℕ, Bool, true, false, cond, ◌&&◌, ◌||◌, eqb}
+use Rattle.std.specs.Prelude.{List, ℕ, Bool, true, false, cond, ◌&&◌, ◌||◌, eqb, Option, Some, None}
 use Rattle.octets.specs.Name.{same}
 use Rattle.record.specs.Fields.{private_of, server_of, server_size, state_of}
 use Rattle.blocks.specs.Blocks.{block_of}
 use Rattle.lookup.specs.Find.{is_at}
-use Rattle.lookup.specs.declared.Found.{Found}
-use Rattle.lookup.specs.declared.Found.TheVariants.{At, Nothing}
 use Rattle.diameter.specs.Message.{body_of}
 use Rattle.requests.specs.Request.{identities}
 use Rattle.requests.specs.Identity.{places_from}
@@ -52,13 +50,13 @@ look_at b owner server kind =
       right = allowed kind (state_of b);
     }
 
-unfoldable pub look_found : List ℕ → Found → List ℕ → List ℕ → AssignmentType → Survey
-look_found t (At k) owner server kind = look_at (block_of t k) owner server kind
-look_found t Nothing owner server kind = not_found
+unfoldable pub look_found : List ℕ → Option ℕ → List ℕ → List ℕ → AssignmentType → Survey
+look_found t (Some k) owner server kind = look_at (block_of t k) owner server kind
+look_found t None owner server kind = not_found
 
 unfoldable pub glimpsed : Survey → List ℕ → List ℕ → List ℕ → AssignmentType → Survey
 glimpsed seen b user server kind = cond (owned_here b user) (both seen (look_at b user server kind)) seen
 
 -- of records that were found or not
-abbrev pub found_survey : List ℕ → List ℕ → List ℕ → AssignmentType → List Found → Survey
+abbrev pub found_survey : List ℕ → List ℕ → List ℕ → AssignmentType → List (Option ℕ) → Survey
 found_survey t owner server kind fs = survey_of t owner server kind (every is_at fs) (numbers_of fs)

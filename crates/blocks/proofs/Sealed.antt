@@ -1,5 +1,5 @@
 -- A block that is given a new check word: it sums to zero, and is as it was before that word.
-use Rattle.octets.specs.Standard.{ℕ, suc, ◌+◌, ◌*◌, ◌%◌, ◌^◌, ◌<◌, ◌≤◌, ◌≡◌, sym, ◌∙◌, ◌≢◌, List, [], ◌∷◌, ◌++◌, append-nil, arith, mod-lt, lit<}
+use Rattle.octets.specs.Standard.{ℕ, suc, ◌+◌, ◌-◌, ◌*◌, ◌%◌, ◌^◌, ◌<◌, ◌≤◌, ◌≡◌, sym, ◌∙◌, ◌≢◌, List, [], ◌∷◌, ◌++◌, append-nil, arith, mod-lt, lit<}
 use Rattle.octets.specs.Standard.{length, get_or, set, take, length-set, drop_of_length-le, get_or-set_other, sets-eq}
 use Rattle.octets.specs.Number.{be32_at, put_be32}
 use Rattle.octets.specs.Sum.{sum_words}
@@ -53,14 +53,14 @@ seal_alike b c k l h =
     tail_word b _ _ _ _ k ∙ rw (s, p) (sym (tail_word c _ _ _ _ l))
 
 -- A check word: what the other words lack, from the word that was there and the sum with it.
-negated_from : (x c s w : ℕ) → x < 2 ^ 32 → w < 2 ^ 32 → s ≡ (x + c) % 2 ^ 32 → (w + s) % 2 ^ 32 ≡ c → w ≡ negated x
+negated_from : (x c s : ℕ) → x < 2 ^ 32 → c < 2 ^ 32 → s ≡ (x + c) % 2 ^ 32 → (c + (2 ^ 32 - s)) % 2 ^ 32 ≡ negated x
 unfolding negated
-negated_from x c s w a b e f = omega arith
+negated_from x c s a b e = omega arith
 
-pub seal_put : (b : List ℕ) {c s w : ℕ} {y : List ℕ} → c ≡ be32_at b 508 → s ≡ sum_words b 128 → w < 2 ^ 32 → (w + s) % 2 ^ 32 ≡ c → y ≡ put_be32 b 508 w
-    → y ≡ sealed b
+pub seal_put : (b : List ℕ) {c s : ℕ} {y : List ℕ} → c ≡ be32_at b 508 → s ≡ sum_words b 128 → c < 2 ^ 32
+    → y ≡ put_be32 b 508 ((c + (2 ^ 32 - s)) % 2 ^ 32) → y ≡ sealed b
 unfolding sealed sum_words
-seal_put b {c} {s} {w} e f h g k = rw (← negated_from (sum_words b 127) (be32_at b 508) s w (sum_lt b 127) h f (g ∙ e)) k
+seal_put b {c} {s} e f h k = rw (← negated_from (sum_words b 127) c s (sum_lt b 127) h (rw e f)) k
 
 -- A block of bytes that sums to zero has its check word.
 negated_is : (x c : ℕ) → x < 2 ^ 32 → c < 2 ^ 32 → (x + c) % 2 ^ 32 ≡ 0 → negated x ≡ c

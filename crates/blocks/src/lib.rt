@@ -10,29 +10,23 @@ use octets::{number, sum};
 pub const BLOCK: usize = 512;
 
 // How many blocks are sound, or the number of the first bad one.
-#[derive(Clone, Copy)]
-pub enum Checked {
-    Sound(u32),
-    Bad(u32),
-}
+pub type Checked = Result<u32, u32>;
 
 // Block k of a file.
-pub fn block(t: &[u8], k: usize) -> &[u8]
+pub fn block(t: &[u8], k: usize) -> &[u8; BLOCK]
     requires { 512 * k + 512 ≤ length t.now }
-    ensures { (result.now ≡ block_of t.now k) × (length result.now ≡ 512) }
+    ensures { result.now ≡ block_of t.now k }
 {
-    let at = BLOCK * k;
-    &t[at..at + BLOCK]
+    t[BLOCK * k..].first_chunk().unwrap()
 }
 
 // Where a block's check word stands.
 const CHECK_AT: usize = 508;
 
 // Gives a block a new check word: the old one, less what the block sums to.
-pub fn seal(b: &mut [u8])
-    requires { length b.old ≡ 512 }
+pub fn seal(b: &mut [u8; BLOCK])
     ensures { b.new ≡ sealed b.old }
 {
-    let w = std::num::wrapping_sub_u32(number::be32(b, CHECK_AT), sum::sum_words(b, 128));
+    let w = number::be32(b, CHECK_AT).wrapping_sub(sum::sum_words(b, 128));
     number::put_be32(b, CHECK_AT, w);
 }

@@ -1,7 +1,9 @@
 -- A call over an area: the table in it afterwards is the one that the call over the table leaves, what is behind it stays, and does not matter.
+use Rattle.std.specs.Prelude.{Ok, Err, Result}
+use Rattle.refusals.specs.declared.Refusal.{Refusal}
+use Rattle.deciding.specs.declared.Told.{Told}
 use Rattle.octets.specs.Standard.{ℕ, ◌+◌, ◌≤◌, Bool, true, false, ◌≡◌, refl, sym, ◌∙◌, ap, List, [], ◌++◌, append-nil, arith, leb, length, take, drop}
 use Rattle.octets.specs.Standard.{length-append, length-take-le, drop_of_length-le, drop_at, leb-true, leb-false}
-use Rattle.blocks.specs.declared.Checked.TheVariants.{Sound, Bad}
 use Rattle.table.specs.Area.{size_in, table_in, check_area}
 use Rattle.table.specs.Check.{check_table}
 use Rattle.table.proofs.Areas.{in_first, in_length, in_rest, in_all, read_alike, read_front, sound_size_in}
@@ -9,7 +11,6 @@ use Rattle.table.proofs.Sound.{TableTests, table_says}
 use Rattle.vectors.specs.VectorFile.{check_vectors}
 use Rattle.reading.specs.declared.Terms.{Terms}
 use Rattle.calling.specs.Call.{Refused}
-use Rattle.calling.specs.declared.Came.{Came}
 use Rattle.calling.specs.Lent.{Lent, lent, holding, table_only, put_back}
 use Rattle.refusals.specs.Early.{early_trials, check_value}
 use Rattle.calling.specs.Serve.{Served, SameCall, file_trials, refused, answered, answered_by, check_of, decided}
@@ -70,7 +71,7 @@ module _ (area : List ℕ) where
             ap table_in (put_exact t h) ∙ in_all t (omega (arith, l.bytes, n, same, h))
 
 -- Two sound tables of so many records are as large.
-sound_large : (t u : List ℕ) (file count : ℕ) → check_table t file ≡ Sound count → check_table u file ≡ Sound count → AsLarge t u
+sound_large : (t u : List ℕ) (file count : ℕ) → check_table t file ≡ Ok count → check_table u file ≡ Ok count → AsLarge t u
 sound_large t u file count e f =
     let a : TableTests t file count = table_says t file count e in
     let b : TableTests u file count = table_says u file count f in
@@ -116,7 +117,7 @@ module _ (x : Lent) where
       ∙ ap (λ (t : List ℕ). record { call = (serve_table x).call; table = t; vectors = (serve_table x).vectors; buffer = (serve_table x).buffer })
       (put_exact x.table (serve_table x).table h)
 
-  module _ (count : ℕ) (sound : check_of x ≡ Sound count) where
+  module _ (count : ℕ) (sound : check_of x ≡ Ok count) where
     pub sound_long : length x.table ≤ size_in x.table
     sound_long = omega (arith, sound_size_in x.table (length x.profile) count sound)
 
@@ -148,14 +149,14 @@ alike_table x area same =
     served_in (holding x area) ∙ ap (λ (y : Lent). (serve_table y).table) (only_alike x area same) ∙ sym (served_in x)
 
 -- A request that the first five refusals let pass over an area whose check answers a bad block: refusal 5 with that block, and everything as it came.
-bad_table : (x : Lent) (k : ℕ) → any_holds (early_trials x.terms x.request x.buffer) ≡ false → check_of x ≡ Bad k
+bad_table : (x : Lent) (k : ℕ) → any_holds (early_trials x.terms x.request x.buffer) ≡ false → check_of x ≡ Err k
     → serve_table x ≡ record { call = Refused 5 k; table = x.table; vectors = x.vectors; buffer = x.buffer }
 unfolding serve_table_by serve_found tried refused
 bad_table x k e f =
     tried_past (refused x) (answered x (decided x)) (early_trials x.terms x.request x.buffer)
     (file_trials (check_of x) (check_vectors x.vectors)) e ∙ rw f
 
-pub bad_refused : (x : Lent) (k : ℕ) → any_holds (early_trials x.terms x.request x.buffer) ≡ false → check_area x.table (length x.profile) ≡ Bad k
+pub bad_refused : (x : Lent) (k : ℕ) → any_holds (early_trials x.terms x.request x.buffer) ≡ false → check_area x.table (length x.profile) ≡ Err k
     → serve x ≡ record { call = Refused 5 k; table = x.table; vectors = x.vectors; buffer = x.buffer }
 unfolding check_area
 bad_refused x k e f = ap (over_area x.table) (bad_table (table_only x) k e f) ∙ rw (put_same x.table)
@@ -168,7 +169,7 @@ module _ (req area file v o : List ℕ) (terms : Terms) where
   abbrev x : Lent
   x = lent req area file v o terms
 
-  pub area_serves : (n : ℕ) {count : ℕ} {r : Came} {t' v' o' : List ℕ} → take n area ≡ table_in area → n ≤ length area
+  pub area_serves : (n : ℕ) {count : ℕ} {r : Result Told Refusal} {t' v' o' : List ℕ} → take n area ≡ table_in area → n ≤ length area
       → Leaves (lent req (take n area) file v o terms) (serve_table (lent req (take n area) file v o terms)) count r t' v' o'
       → Comes (serve x) r (t' ++ drop n area) v' o'
   area_serves n {count} {r} {t'} {v'} {o'} e h l =

@@ -1,8 +1,7 @@
 -- Whatever a call comes to, a table is sound after it with so many records if it was before, and so is the vector file; an unsound one stays as it is.
-use Rattle.octets.specs.Standard.{◌≤◌, Bool, true, false, true≢false, ◌≡◌, refl, sym, ◌∙◌, length, arith, ltb-false}
+use Rattle.std.specs.Prelude.{Result, Ok, Err}
+use Rattle.octets.specs.Standard.{ℕ, ◌≤◌, Bool, true, false, true≢false, ◌≡◌, refl, sym, ◌∙◌, length, arith, ltb-false}
 use Rattle.table.specs.Check.{check_table}
-use Rattle.blocks.specs.declared.Checked.{Checked}
-use Rattle.blocks.specs.declared.Checked.TheVariants.{Sound, Bad}
 use Rattle.table.specs.SoundTable.{SoundTable}
 use Rattle.vectors.specs.VectorFile.{check_vectors, SoundVectors}
 use Rattle.rewrite.proofs.Sound.{keeping_sound}
@@ -16,9 +15,9 @@ use Rattle.calling.specs.Serve.{refused, answered, answered_by, decided, serve_f
 use Rattle.refusals.proofs.Trials.{tried_by}
 
 -- a file that is not bad is sound
-pub sound_count : (c : Checked) → is_bad c ≡ false → c ≡ Sound (check_value c)
-sound_count (Sound count) e = refl
-sound_count (Bad block) e = absurd (true≢false e)
+pub sound_count : (c : Result ℕ ℕ) → is_bad c ≡ false → c ≡ Ok (check_value c)
+sound_count (Ok count) e = refl
+sound_count (Err block) e = absurd (true≢false e)
 
 module _ (x : Lent) where
   -- what holds where none of the seven does
@@ -27,7 +26,7 @@ module _ (x : Lent) where
     pub room : 36864 ≤ length x.buffer
     pub size : wrong_size x.request ≡ false
     pub lengths : wrong_length x.request ≡ false
-    pub table : check_of x ≡ Sound (check_value (check_of x))
+    pub table : check_of x ≡ Ok (check_value (check_of x))
     pub vectors : SoundVectors x.vectors
 
   pub taken : any_holds (trials x) ≡ false → Taken

@@ -1,7 +1,6 @@
 -- One call: what it comes to, the table, the vectors and the buffer afterwards, for any bytes.
-use Rattle.std.specs.Prelude.{ℕ, List, [], ◌∷◌, ◌++◌, ◌≡◌, length}
+use Rattle.std.specs.Prelude.{ℕ, List, [], ◌∷◌, ◌++◌, ◌≡◌, length, Result}
 use Rattle.octets.specs.Run.{over}
-use Rattle.blocks.specs.declared.Checked.{Checked}
 use Rattle.vectors.specs.VectorFile.{check_vectors}
 use Rattle.deciding.specs.Rules.{Rules, in_force}
 use Rattle.deciding.specs.Decide.{Decision, decide_by}
@@ -19,14 +18,14 @@ pub record Served : Type 0 where
   pub buffer : List ℕ
 
 -- "6, vector file unsound, at every call, after 5"
-abbrev pub unsound_vectors : Checked → Trial
+abbrev pub unsound_vectors : Result ℕ ℕ → Trial
 unsound_vectors d = record { holds = is_bad d; number = 6; besides = 0 }
 
 -- those of a table and a vector file that are checked so
-abbrev pub file_trials : Checked → Checked → List Trial
+abbrev pub file_trials : Result ℕ ℕ → Result ℕ ℕ → List Trial
 file_trials c d = unsound c ∷ unsound_vectors d ∷ []
 
-abbrev pub trials_of : Lent → Checked → List Trial
+abbrev pub trials_of : Lent → Result ℕ ℕ → List Trial
 trials_of x c = early_trials x.terms x.request x.buffer ++ file_trials c (check_vectors x.vectors)
 
 -- "All leave table and buffer as they came", and the vectors
@@ -52,7 +51,7 @@ answered_by r x d =
 abbrev pub decision_by : Rules → Lent → ℕ → Decision
 decision_by r x count = decide_by r (dialect_in x) x.request x.table count x.vectors
 
-unfoldable pub serve_found : Rules → Lent → Checked → Served
+unfoldable pub serve_found : Rules → Lent → Result ℕ ℕ → Served
 serve_found r x c = tried (refused x) (answered_by r x (decision_by r x (check_value c))) (trials_of x c)
 
 unfoldable pub serve_table_by : Rules → Lent → Served
@@ -69,7 +68,7 @@ abbrev pub serve_table : Lent → Served
 serve_table = serve_table_by in_force
 
 -- what the check of its table answers, its trials, the decision over a table that is sound, of so many records
-abbrev pub check_of : Lent → Checked
+abbrev pub check_of : Lent → Result ℕ ℕ
 check_of x = in_force.check x.table (length x.profile)
 
 abbrev pub trials : Lent → List Trial

@@ -14,16 +14,7 @@ ghost use Rattle.calling.specs.Leaves.{Leaves, Comes, serve_checked};
 use blocks::Checked;
 use deciding::{Asked, Told};
 use reading::Terms;
-
-// The last refusal, by its number.
-pub const UNSOUND_VECTORS: u16 = 6;
-
-// What a call comes to: an answer, with what is told of it, or a refusal's number with what it returns besides.
-#[derive(Clone, Copy)]
-pub enum Came {
-    Answered(Told),
-    Refused { number: u16, besides: u32 },
-}
+use refusals::Refusal;
 
 // What calls over the same files share: what the checks of the table and of the vector file say, which a call keeps, and the terms.
 #[derive(Clone, Copy)]
@@ -42,20 +33,17 @@ fn over_sound(
     file: &[u8],
     v: &mut [u8],
     out: &mut [u8],
-) -> Came
+) -> Result<Told, Refusal>
     requires { Passed req.now out.old × SoundTable t.old asked.count × (d ≡ check_vectors v.old)
         × (asked.dialect ≡ dialect_of asked.dialect.terms req.now) }
     ensures { Leaves (lent req.now t.old file.now v.old out.old asked.dialect.terms)
         (serve_checked (lent req.now t.old file.now v.old out.old asked.dialect.terms)
-        (Checked.Sound asked.count) d)
+        (Ok asked.count) d)
         asked.count result t.new v.new out.new }
 {
     match d {
-        Checked::Sound(_) => { Came::Answered(deciding::answer_sound(out, req, t, file, v, asked)) }
-        Checked::Bad(_) => Came::Refused {
-            number: UNSOUND_VECTORS,
-            besides: 0,
-        },
+        Ok(_) => Ok(deciding::answer_sound(out, req, t, file, v, asked)),
+        Err(_) => Err(Refusal::UnsoundVectors),
     }
 }
 
@@ -67,7 +55,7 @@ fn over_checked(
     file: &[u8],
     v: &mut [u8],
     out: &mut [u8],
-) -> Came
+) -> Result<Told, Refusal>
     requires { Passed req.now out.old × (k.table ≡ check_table t.old (length file.now)) × (k.vectors ≡ check_vectors v.old) }
     ensures { Leaves (lent req.now t.old file.now v.old out.old k.terms)
         (serve_checked (lent req.now t.old file.now v.old out.old k.terms) k.table k.vectors)
@@ -77,17 +65,14 @@ fn over_checked(
     let d = k.vectors;
     let dialect = requests::dialect(req, k.terms);
     match c {
-        Checked::Sound(count) => {
+        Ok(count) => {
             let asked = Asked {
                 dialect,
                 count: count as usize,
             };
             over_sound(d, asked, req, t, file, v, out)
         }
-        Checked::Bad(block) => Came::Refused {
-            number: refusals::UNSOUND,
-            besides: block,
-        },
+        Err(block) => Err(Refusal::Unsound(block)),
     }
 }
 
@@ -99,16 +84,13 @@ pub fn call_over(
     file: &[u8],
     v: &mut [u8],
     out: &mut [u8],
-) -> Came
+) -> Result<Told, Refusal>
     requires { (k.table ≡ check_table t.old (length file.now)) × (k.vectors ≡ check_vectors v.old) }
     ensures { Leaves (lent req.now t.old file.now v.old out.old k.terms)
         (serve_table (lent req.now t.old file.now v.old out.old k.terms))
         (check_value k.table) result t.new v.new out.new }
 {
-    let number = refusals::early(k.terms, req, out);
-    if 0 < number {
-        return Came::Refused { number, besides: 0 };
-    }
+    refusals::early(k.terms, req, out)?;
     over_checked(k, req, t, file, v, out)
 }
 
@@ -120,16 +102,13 @@ fn call_table(
     v: &mut [u8],
     out: &mut [u8],
     terms: Terms,
-) -> Came
+) -> Result<Told, Refusal>
     ensures { Leaves (lent req.now t.old file.now v.old out.old terms)
         (serve_table (lent req.now t.old file.now v.old out.old terms))
         (check_value (check_of (lent req.now t.old file.now v.old out.old terms)))
         result t.new v.new out.new }
 {
-    let number = refusals::early(terms, req, out);
-    if 0 < number {
-        return Came::Refused { number, besides: 0 };
-    }
+    refusals::early(terms, req, out)?;
     let k = Shared {
         table: table::check(t, file.len()),
         vectors: vectors::file::check(v),
@@ -146,7 +125,7 @@ pub fn call(
     v: &mut [u8],
     out: &mut [u8],
     terms: Terms,
-) -> Came
+) -> Result<Told, Refusal>
     ensures { Comes
         (serve (lent req.now area.old file.now v.old out.old terms))
         result area.new v.new out.new }

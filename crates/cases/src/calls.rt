@@ -1,169 +1,112 @@
 // The calls, a function for each entry: it lends the slices of the case, copies of those that the entry writes to, and tells of the outcome.
-use octets::run;
-use streams::{outcome, words};
+use std::io;
+use streams::case::Case;
+use streams::outcome;
 
-fn check(rt: &impl Print, given: &[u8], w: &[u8; 64]) -> bool {
-    let word = ndushavire::ndushavire_check(words::slice(given, w, 0), words::slice(given, w, 1));
-    outcome::put(rt, word, 0)
+fn check(rt: &impl Print, case: &Case) -> io::Result<()> {
+    let word = ndushavire::ndushavire_check(case.slice(0), case.slice(1));
+    outcome::put(rt, word, &[])
 }
 
-fn decide(rt: &impl Print, given: &[u8], w: &[u8; 64]) -> bool {
-    let table = words::slice(given, w, 1);
-    let vectors = words::slice(given, w, 3);
-    let buffer = words::slice(given, w, 4);
-    let mut t = [0u8; 40000];
-    let mut v = [0u8; 40000];
-    let mut out = [0u8; 40000];
-    run::copy(&mut t, table);
-    run::copy(&mut v, vectors);
-    run::copy(&mut out, buffer);
-    let n = table.len();
-    let m = vectors.len();
-    let room = buffer.len();
+fn decide(rt: &impl Print, case: &Case) -> io::Result<()> {
+    let mut table = case.lend(1);
+    let mut vectors = case.lend(3);
+    let mut buffer = case.lend(4);
     let word = ndushavire::ndushavire_decide(
-        words::slice(given, w, 0),
-        &mut t[..n],
-        words::slice(given, w, 2),
-        &mut v[..m],
-        &mut out[..room],
-        words::number_of(w, 5),
-        words::number_of(w, 6),
+        case.slice(0),
+        table.bytes(),
+        case.slice(2),
+        vectors.bytes(),
+        buffer.bytes(),
+        case.number(5),
+        case.number(6),
     );
-    outcome::put(rt, word, 3)
-        & outcome::put_change(rt, table, &t)
-        & outcome::put_change(rt, vectors, &v)
-        & outcome::put_change(rt, buffer, &out)
+    outcome::put(rt, word, &[&table, &vectors, &buffer])
 }
 
-fn check_vectors(rt: &impl Print, given: &[u8], w: &[u8; 64]) -> bool {
-    let word = ndushavire::ndushavire_check_vectors(words::slice(given, w, 0));
-    outcome::put(rt, word, 0)
+fn check_vectors(rt: &impl Print, case: &Case) -> io::Result<()> {
+    let word = ndushavire::ndushavire_check_vectors(case.slice(0));
+    outcome::put(rt, word, &[])
 }
 
-fn report(rt: &impl Print, given: &[u8], w: &[u8; 64]) -> bool {
-    let table = words::slice(given, w, 1);
-    let vectors = words::slice(given, w, 3);
-    let buffer = words::slice(given, w, 4);
-    let area = words::slice(given, w, 5);
-    let mut t = [0u8; 40000];
-    let mut v = [0u8; 40000];
-    let mut out = [0u8; 40000];
-    let mut written = [0u8; 40000];
-    run::copy(&mut t, table);
-    run::copy(&mut v, vectors);
-    run::copy(&mut out, buffer);
-    run::copy(&mut written, area);
-    let n = table.len();
-    let m = vectors.len();
-    let room = buffer.len();
-    let k = area.len();
+fn report(rt: &impl Print, case: &Case) -> io::Result<()> {
+    let mut table = case.lend(1);
+    let mut vectors = case.lend(3);
+    let mut buffer = case.lend(4);
+    let mut area = case.lend(5);
     let word = ndushavire::ndushavire_report(
-        words::slice(given, w, 0),
-        &mut t[..n],
-        words::slice(given, w, 2),
-        &mut v[..m],
-        &mut out[..room],
-        &mut written[..k],
-        words::number_of(w, 6),
-        words::number_of(w, 7),
+        case.slice(0),
+        table.bytes(),
+        case.slice(2),
+        vectors.bytes(),
+        buffer.bytes(),
+        area.bytes(),
+        case.number(6),
+        case.number(7),
     );
-    outcome::put(rt, word, 4)
-        & outcome::put_change(rt, table, &t)
-        & outcome::put_change(rt, vectors, &v)
-        & outcome::put_change(rt, buffer, &out)
-        & outcome::put_change(rt, area, &written)
+    outcome::put(rt, word, &[&table, &vectors, &buffer, &area])
 }
 
-fn forward(rt: &impl Print, given: &[u8], w: &[u8; 64]) -> bool {
-    let table = words::slice(given, w, 0);
-    let mut t = [0u8; 40000];
-    run::copy(&mut t, table);
-    let n = table.len();
-    let word = ndushavire::ndushavire_forward(
-        &mut t[..n],
-        words::slice(given, w, 1),
-        words::number_of(w, 2),
-    );
-    outcome::put(rt, word, 1) & outcome::put_change(rt, table, &t)
+fn forward(rt: &impl Print, case: &Case) -> io::Result<()> {
+    let mut table = case.lend(0);
+    let word = ndushavire::ndushavire_forward(table.bytes(), case.slice(1), case.number(2));
+    outcome::put(rt, word, &[&table])
 }
 
-fn back(rt: &impl Print, given: &[u8], w: &[u8; 64]) -> bool {
-    let table = words::slice(given, w, 0);
-    let mut t = [0u8; 40000];
-    run::copy(&mut t, table);
-    let n = table.len();
-    let word = ndushavire::ndushavire_back(&mut t[..n], words::slice(given, w, 1));
-    outcome::put(rt, word, 1) & outcome::put_change(rt, table, &t)
+fn back(rt: &impl Print, case: &Case) -> io::Result<()> {
+    let mut table = case.lend(0);
+    let word = ndushavire::ndushavire_back(table.bytes(), case.slice(1));
+    outcome::put(rt, word, &[&table])
 }
 
-fn take(rt: &impl Print, given: &[u8], w: &[u8; 64]) -> bool {
-    let area = words::slice(given, w, 0);
-    let mut a = [0u8; 40000];
-    run::copy(&mut a, area);
-    let n = area.len();
-    let word = ndushavire::ndushavire_take(
-        &mut a[..n],
-        words::slice(given, w, 1),
-        words::slice(given, w, 2),
-    );
-    outcome::put(rt, word, 1) & outcome::put_change(rt, area, &a)
+fn take(rt: &impl Print, case: &Case) -> io::Result<()> {
+    let mut area = case.lend(0);
+    let word = ndushavire::ndushavire_take(area.bytes(), case.slice(1), case.slice(2));
+    outcome::put(rt, word, &[&area])
 }
 
-fn export(rt: &impl Print, given: &[u8], w: &[u8; 64]) -> bool {
-    let list = words::slice(given, w, 2);
-    let mut out = [0u8; 40000];
-    run::copy(&mut out, list);
-    let n = list.len();
-    let word = ndushavire::ndushavire_export(
-        words::slice(given, w, 0),
-        words::slice(given, w, 1),
-        &mut out[..n],
-    );
-    outcome::put(rt, word, 1) & outcome::put_change(rt, list, &out)
+fn export(rt: &impl Print, case: &Case) -> io::Result<()> {
+    let mut list = case.lend(2);
+    let word = ndushavire::ndushavire_export(case.slice(0), case.slice(1), list.bytes());
+    outcome::put(rt, word, &[&list])
 }
 
-fn import(rt: &impl Print, given: &[u8], w: &[u8; 64]) -> bool {
-    let table = words::slice(given, w, 3);
-    let mut t = [0u8; 40000];
-    run::copy(&mut t, table);
-    let n = table.len();
+fn import(rt: &impl Print, case: &Case) -> io::Result<()> {
+    let mut table = case.lend(3);
     let word = ndushavire::ndushavire_import(
-        words::slice(given, w, 0),
-        words::slice(given, w, 1),
-        words::slice(given, w, 2),
-        &mut t[..n],
+        case.slice(0),
+        case.slice(1),
+        case.slice(2),
+        table.bytes(),
     );
-    outcome::put(rt, word, 1) & outcome::put_change(rt, table, &t)
+    outcome::put(rt, word, &[&table])
 }
 
-fn sh_decide(rt: &impl Print, given: &[u8], w: &[u8; 64]) -> bool {
-    let buffer = words::slice(given, w, 3);
-    let mut out = [0u8; 40000];
-    run::copy(&mut out, buffer);
-    let room = buffer.len();
+fn sh_decide(rt: &impl Print, case: &Case) -> io::Result<()> {
+    let mut buffer = case.lend(3);
     let word = ndushavire_sh::ndushavire_sh_decide(
-        words::slice(given, w, 0),
-        words::slice(given, w, 1),
-        words::slice(given, w, 2),
-        &mut out[..room],
-        words::number_of(w, 4),
+        case.slice(0),
+        case.slice(1),
+        case.slice(2),
+        buffer.bytes(),
+        case.number(4),
     );
-    outcome::put(rt, word, 1) & outcome::put_change(rt, buffer, &out)
+    outcome::put(rt, word, &[&buffer])
 }
 
-// Calls an entry by its number in the streams.
-pub fn call(rt: &impl Print, entry: u8, given: &[u8], w: &[u8; 64]) -> bool {
-    match entry {
-        1 => check(rt, given, w),
-        2 => decide(rt, given, w),
-        3 => check_vectors(rt, given, w),
-        4 => report(rt, given, w),
-        5 => forward(rt, given, w),
-        6 => back(rt, given, w),
-        7 => take(rt, given, w),
-        8 => export(rt, given, w),
-        9 => import(rt, given, w),
-        10 => sh_decide(rt, given, w),
-        _ => false,
-    }
+// Calls an entry by its number in the streams; none, if it is not one.
+pub fn call(rt: &impl Print, entry: u8, case: &Case) -> Option<io::Result<()>> {
+    Some(match entry {
+        1 => check(rt, case),
+        2 => decide(rt, case),
+        3 => check_vectors(rt, case),
+        4 => report(rt, case),
+        5 => forward(rt, case),
+        6 => back(rt, case),
+        7 => take(rt, case),
+        8 => export(rt, case),
+        9 => import(rt, case),
+        10 => sh_decide(rt, case),
+        _ => return None,
+    })
 }

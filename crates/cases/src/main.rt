@@ -3,51 +3,34 @@
 // is this program's expected output. reference/README.md has the form of both, under "Streams".
 mod calls;
 
-ghost use Rattle.std.specs.Prelude.{◌≤◌};
+use streams::case::{Case, Words};
 
-// A case behind its first four bytes, which are entry, fill and how many slices and numbers there are.
-fn run(
-    rt: &(impl Input + Print + Eprint),
-    entry: u8,
-    fill: u8,
-    slices: usize,
-    numbers: usize,
-) -> bool
-    requires { (slices ≤ 255) × (numbers ≤ 255) }
-{
-    let n = slices + numbers;
-    if 16 < n {
-        return false;
-    }
-    let mut w = [0u8; 64];
-    if !streams::filled(rt, &mut w[..4 * n]) {
-        return false;
-    }
-    let mut given = [0u8; 65536];
-    if !streams::hold_all(rt, &mut given, &w, slices, fill) {
-        return false;
-    }
-    calls::call(rt, entry, &given, &w)
-}
-
-// One case: false at the end of the input, or where there is no room for a case.
-fn one_case(rt: &(impl Input + Print + Eprint)) -> bool {
+// One case: entry, fill, how many slices and numbers there are, and then their words and the slices. None at the end of the input, or where
+// there is no room for a case.
+fn one_case(rt: &(impl Input + Print + Eprint)) -> Option<()> {
     let mut head = [0u8; 4];
-    if !streams::filled(rt, &mut head) {
-        return false;
+    streams::fill(rt, &mut head)?;
+    let [entry, fill, slices, numbers] = head;
+    let slices = usize::from(slices);
+    let n = slices + usize::from(numbers);
+    if 16 < n {
+        return None;
     }
-    run(
-        rt,
-        head[0],
-        head[1],
-        octets::wide(head[2]),
-        octets::wide(head[3]),
-    )
+    let mut words = Words([0; 64]);
+    streams::fill(rt, &mut words.0[..4 * n])?;
+    let mut given = [0u8; 65536];
+    words.hold(rt, &mut given, slices, fill)?;
+    let case = Case {
+        words: &words,
+        given: &given,
+    };
+    calls::call(rt, entry, &case)?.ok()
 }
 
 fn main(rt: HostRuntime) {
-    let mut turns: u32 = 1000000;
-    while turns > 0 && one_case(&rt) {
-        turns -= 1;
+    for _ in 0..1000000u32 {
+        if one_case(&rt).is_none() {
+            return;
+        }
     }
 }

@@ -1,5 +1,5 @@
 -- What is planned; and "SAR.": what it comes to, by what was seen of its records, and the plan then.
-use Rattle.std.specs.Prelude.{ℕ, Bool, cond, not, ◌&&◌, eqb}
+use Rattle.std.specs.Prelude.{ℕ, Bool, cond, not, ◌&&◌, eqb, Result, Ok, Err}
 use Rattle.reading.specs.declared.Outcome.{Outcome}
 use Rattle.reading.specs.declared.Outcome.TheVariants.{Base, Experimental}
 use Rattle.choices.specs.Types.{asks_only, carries_user, effect_of}
@@ -9,22 +9,24 @@ use Rattle.choices.specs.declared.types.AssignmentType.{AssignmentType}
 use Rattle.choices.specs.declared.types.Effect.{Effect}
 use Rattle.choices.specs.declared.plan.Sar.{Sar}
 use Rattle.choices.specs.declared.plan.Survey.{Survey}
-use Rattle.choices.specs.declared.plan.Finding.{Finding}
-use Rattle.choices.specs.declared.plan.Finding.TheVariants.{Denied, Fine}
 use Rattle.choices.specs.declared.plan.Deed.{Deed}
 use Rattle.choices.specs.declared.plan.Deed.TheVariants.{Leave, Settle}
 use Rattle.choices.specs.declared.plan.Plan.{Plan}
+
+-- what the questions of a SAR or a MAR come to: the result of the first that is at fault, if one is
+abbrev pub Finding : Type 0
+Finding = Result (Unit {0}) Outcome
 
 -- "any named identity, or a User-Name given, unknown: X5001. All in one subscription, the User-Name's if given, else X5002. Type 0: stored name equal to the
 -- request's, B2001, else B5012. A stored name of one of these records that differs from the request's: X5005. Wrong state: X5007 .. and at least one record."
 unfoldable pub finding_of : Survey → AssignmentType → Finding
 finding_of v kind =
-    cond (not v.known) (Denied (Experimental 5001))
-    (cond (not v.own) (Denied (Experimental 5002))
-    (cond (asks_only kind) (cond v.stores Fine (Denied (Base 5012)))
-    (cond (not v.fits) (Denied (Experimental 5005))
-    (cond (not (v.some && v.right)) (Denied (Experimental 5007))
-    Fine))))
+    cond (not v.known) (Err (Experimental 5001))
+    (cond (not v.own) (Err (Experimental 5002))
+    (cond (asks_only kind) (cond v.stores (Ok tt) (Err (Base 5012)))
+    (cond (not v.fits) (Err (Experimental 5005))
+    (cond (not (v.some && v.right)) (Err (Experimental 5007))
+    (Ok tt)))))
 
 -- "User-Name (the record's private identity; SAR success, types 0 to 3)"; "User-Data 606 (SAR success, types 0 to 3, 624 is 0, ..)"; the record is that of
 -- block `first`
@@ -40,6 +42,6 @@ unfoldable pub deed_of : Effect → Bool → Deed
 deed_of e owned = cond e.write (Settle (record { owned = owned; state = e.state; named = e.named })) Leave
 
 unfoldable pub plan_of : Finding → Sar → ℕ → Bool → Plan
-plan_of (Denied r) s first owned = only (given_plain r)
-plan_of Fine s first owned =
+plan_of (Err r) s first owned = only (given_plain r)
+plan_of (Ok done) s first owned =
     record { given = grant s first (effect_of s.kind s.keep).result; deed = deed_of (effect_of s.kind s.keep) owned }

@@ -2,8 +2,8 @@
 ghost use Rattle.std.specs.Prelude.{◌≡◌};
 ghost use Rattle.choices.specs.Challenges.{claim_of, challenge_of};
 
-use crate::plan::{Deed, Finding, Plan};
-use crate::{giving, plan};
+use crate::giving;
+use crate::plan::{Deed, Plan};
 use reading::{Outcome, base, experimental};
 use vectors::choice::Sent;
 
@@ -17,34 +17,38 @@ pub struct Claimed {
     pub some: bool,
 }
 
-// The first that is at fault, in the document's order.
-pub fn claim_of(a: Claimed) -> Finding
-    ensures { result ≡ claim_of a }
-{
-    if !a.known {
-        return Finding::Denied(Outcome::Experimental(experimental::USER_UNKNOWN));
+impl Claimed {
+    // The first that is at fault, in the document's order.
+    #[tactic(auto, unfolding(crate::specs::Challenges::claim_of))]
+    pub fn finding(self) -> Result<(), Outcome>
+        ensures { result ≡ claim_of self }
+    {
+        if !self.known {
+            return Err(Outcome::Experimental(experimental::USER_UNKNOWN));
+        }
+        if !self.together {
+            return Err(Outcome::Experimental(experimental::IDENTITIES_DONT_MATCH));
+        }
+        if !self.served {
+            return Err(Outcome::Experimental(experimental::AUTH_SCHEME_NOT_SUPPORTED));
+        }
+        if !self.some {
+            return Err(Outcome::Base(base::UNABLE_TO_COMPLY));
+        }
+        Ok(())
     }
-    if !a.together {
-        return Finding::Denied(Outcome::Experimental(experimental::IDENTITIES_DONT_MATCH));
-    }
-    if !a.served {
-        return Finding::Denied(Outcome::Experimental(experimental::AUTH_SCHEME_NOT_SUPPORTED));
-    }
-    if !a.some {
-        return Finding::Denied(Outcome::Base(base::UNABLE_TO_COMPLY));
-    }
-    Finding::Fine
 }
 
 // A success sends these vectors, with the identities of the record in block k.
-pub fn challenge_of(f: Finding, k: u32, sent: Sent) -> Plan
-    ensures { result ≡ challenge_of f k sent }
+#[tactic(auto, unfolding(crate::specs::Challenges::challenge_of))]
+pub fn challenge_of(found: Result<(), Outcome>, k: u32, sent: Sent) -> Plan
+    ensures { result ≡ challenge_of found k sent }
 {
-    match f {
-        Finding::Denied(result) => plan::reply_only(giving::plain(result)),
-        Finding::Fine => Plan {
+    match found {
+        Ok(()) => Plan {
             given: giving::challenging(k, sent),
             deed: Deed::Challenge(k),
         },
+        Err(result) => Plan::reply_only(giving::plain(result)),
     }
 }

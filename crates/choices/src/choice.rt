@@ -35,55 +35,61 @@ pub enum Choice {
     First(Outcome, Outcome),
 }
 
-// The decision on a UAR, in the document's order.
-pub fn authorization(a: Asked, kind: u32) -> Choice
-    ensures { result ≡ authorization a kind }
-{
-    if !a.known {
-        return Choice::Alone(Outcome::Experimental(experimental::USER_UNKNOWN));
-    }
-    if !a.together {
-        return Choice::Alone(Outcome::Experimental(experimental::IDENTITIES_DONT_MATCH));
-    }
-    if a.barred {
-        return Choice::Alone(Outcome::Base(base::AUTHORIZATION_REJECTED));
-    }
-    if (kind != 1) & !a.roams {
-        return Choice::Alone(Outcome::Experimental(experimental::ROAMING_NOT_ALLOWED));
-    }
-    if kind == 2 {
-        return Choice::Capabilities(Outcome::Base(base::SUCCESS));
-    }
-    if a.present {
-        if kind == 0 {
-            return Choice::Server(Outcome::Experimental(experimental::SUBSEQUENT_REGISTRATION));
+impl Asked {
+    // The decision on a UAR, in the document's order.
+    #[tactic(auto, unfolding(crate::specs::Choices::authorization))]
+    pub fn authorization(self, kind: u32) -> Choice
+        ensures { result ≡ authorization self kind }
+    {
+        if !self.known {
+            return Choice::Alone(Outcome::Experimental(experimental::USER_UNKNOWN));
         }
-        return Choice::Server(Outcome::Base(base::SUCCESS));
+        if !self.together {
+            return Choice::Alone(Outcome::Experimental(experimental::IDENTITIES_DONT_MATCH));
+        }
+        if self.barred {
+            return Choice::Alone(Outcome::Base(base::AUTHORIZATION_REJECTED));
+        }
+        if (kind != 1) & !self.roams {
+            return Choice::Alone(Outcome::Experimental(experimental::ROAMING_NOT_ALLOWED));
+        }
+        if kind == 2 {
+            return Choice::Capabilities(Outcome::Base(base::SUCCESS));
+        }
+        if self.present {
+            if kind == 0 {
+                return Choice::Server(Outcome::Experimental(experimental::SUBSEQUENT_REGISTRATION));
+            }
+            return Choice::Server(Outcome::Base(base::SUCCESS));
+        }
+        if kind == 1 {
+            return Choice::Alone(Outcome::Experimental(experimental::IDENTITY_NOT_REGISTERED));
+        }
+        Choice::First(
+            Outcome::Experimental(experimental::SUBSEQUENT_REGISTRATION),
+            Outcome::Experimental(experimental::FIRST_REGISTRATION),
+        )
     }
-    if kind == 1 {
-        return Choice::Alone(Outcome::Experimental(experimental::IDENTITY_NOT_REGISTERED));
-    }
-    Choice::First(
-        Outcome::Experimental(experimental::SUBSEQUENT_REGISTRATION),
-        Outcome::Experimental(experimental::FIRST_REGISTRATION),
-    )
 }
 
-// The decision on a LIR.
-pub fn location(a: Sought) -> Choice
-    ensures { result ≡ location a }
-{
-    if !a.known {
-        return Choice::Alone(Outcome::Experimental(experimental::USER_UNKNOWN));
+impl Sought {
+    // The decision on a LIR.
+    #[tactic(auto, unfolding(crate::specs::Choices::location))]
+    pub fn location(self) -> Choice
+        ensures { result ≡ location self }
+    {
+        if !self.known {
+            return Choice::Alone(Outcome::Experimental(experimental::USER_UNKNOWN));
+        }
+        if self.present {
+            return Choice::Server(Outcome::Base(base::SUCCESS));
+        }
+        if !self.services {
+            return Choice::Alone(Outcome::Experimental(experimental::IDENTITY_NOT_REGISTERED));
+        }
+        Choice::First(
+            Outcome::Base(base::SUCCESS),
+            Outcome::Experimental(experimental::UNREGISTERED_SERVICE),
+        )
     }
-    if a.present {
-        return Choice::Server(Outcome::Base(base::SUCCESS));
-    }
-    if !a.services {
-        return Choice::Alone(Outcome::Experimental(experimental::IDENTITY_NOT_REGISTERED));
-    }
-    Choice::First(
-        Outcome::Base(base::SUCCESS),
-        Outcome::Experimental(experimental::UNREGISTERED_SERVICE),
-    )
 }

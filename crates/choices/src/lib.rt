@@ -11,6 +11,7 @@ use vectors::choice::Sent;
 
 // What a decision gives the answer to carry. Names, capabilities, user data and vectors stay where they are: these are the numbers of the
 // blocks that have them, 0 where the answer has no such AVP; of the vectors, whose block 0 is one, there is a count.
+// Numbers, and no Options: the laws of `seen_alike` and `demands` compare them (`GivenAlike`, `SameGiven`).
 #[derive(Clone, Copy)]
 pub struct Given {
     pub verdict: Verdict,

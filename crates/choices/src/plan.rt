@@ -1,9 +1,9 @@
 // What is found and planned; and "SAR.": what it comes to, by what was seen of its records, and the plan then.
-ghost use Rattle.std.specs.Prelude.{◌≡◌};
+ghost use Rattle.std.specs.Prelude.{◌≡◌, Ok};
 ghost use Rattle.choices.specs.Plans.{finding_of, grant, only, deed_of, plan_of};
 
 use crate::types::{AssignmentType, Effect};
-use crate::{Given, giving, types};
+use crate::{Given, giving};
 use reading::{Outcome, base, experimental};
 
 // The numbers of a SAR: its type, 624, whether a User-Name is given; and the header's keep.
@@ -25,13 +25,6 @@ pub struct Survey {
     pub stores: bool,
     pub fits: bool,
     pub right: bool,
-}
-
-// What the questions of a SAR or a MAR come to.
-#[derive(Clone, Copy)]
-pub enum Finding {
-    Denied(Outcome),
-    Fine,
 }
 
 // A row of the table of effects on the User-Name's records that are not in state 0 or on those of the named identities: the state that each gets, and
@@ -58,87 +51,99 @@ pub struct Plan {
     pub deed: Deed,
 }
 
-// The first that is at fault, in the document's order.
-pub fn finding_of(v: Survey, kind: AssignmentType) -> Finding
-    ensures { result ≡ finding_of v kind }
-{
-    if !v.known {
-        return Finding::Denied(Outcome::Experimental(experimental::USER_UNKNOWN));
-    }
-    if !v.own {
-        return Finding::Denied(Outcome::Experimental(experimental::IDENTITIES_DONT_MATCH));
-    }
-    if types::asks_only(kind) {
-        if v.stores {
-            return Finding::Fine;
+impl Survey {
+    // The first that is at fault, in the document's order.
+    #[tactic(auto, unfolding(crate::specs::Plans::finding_of))]
+    pub fn finding(self, kind: AssignmentType) -> Result<(), Outcome>
+        ensures { result ≡ finding_of self kind }
+    {
+        if !self.known {
+            return Err(Outcome::Experimental(experimental::USER_UNKNOWN));
         }
-        return Finding::Denied(Outcome::Base(base::UNABLE_TO_COMPLY));
-    }
-    if !v.fits {
-        return Finding::Denied(Outcome::Experimental(experimental::IDENTITY_ALREADY_REGISTERED));
-    }
-    if !(v.some & v.right) {
-        return Finding::Denied(Outcome::Experimental(experimental::IN_ASSIGNMENT_TYPE));
-    }
-    Finding::Fine
-}
-
-// A success carries the private identity of the record in block `first`, and its user data where 624 is 0, for the types that carry them.
-fn granted(s: Sar, first: u32, res: Outcome) -> Given
-    ensures { result ≡ grant s first res }
-{
-    let kind = s.kind;
-    if !types::carries_user(kind) {
-        return giving::plain(res);
-    }
-    if s.already == 0 {
-        return giving::assigned(res, first, first);
-    }
-    giving::assigned(res, first, 0)
-}
-
-// Nothing is written.
-pub fn reply_only(given: Given) -> Plan
-    ensures { result ≡ only given }
-{
-    Plan {
-        given,
-        deed: Deed::Leave,
+        if !self.own {
+            return Err(Outcome::Experimental(experimental::IDENTITIES_DONT_MATCH));
+        }
+        if kind.asks_only() {
+            if self.stores {
+                return Ok(());
+            }
+            return Err(Outcome::Base(base::UNABLE_TO_COMPLY));
+        }
+        if !self.fits {
+            return Err(Outcome::Experimental(experimental::IDENTITY_ALREADY_REGISTERED));
+        }
+        if !(self.some & self.right) {
+            return Err(Outcome::Experimental(experimental::IN_ASSIGNMENT_TYPE));
+        }
+        Ok(())
     }
 }
 
-// What a row of the table of effects has to be written.
-fn deed_of(e: Effect, owned: bool) -> Deed
-    ensures { result ≡ deed_of e owned }
-{
-    if e.write {
-        return Deed::Settle(Settling {
-            owned,
-            state: e.state,
-            named: e.named,
-        });
+impl Sar {
+    // A success carries the private identity of the record in block `first`, and its user data where 624 is 0, for the types that carry them.
+    #[tactic(auto, unfolding(crate::specs::Plans::grant))]
+    fn granted(self, first: u32, res: Outcome) -> Given
+        ensures { result ≡ grant self first res }
+    {
+        if !self.kind.carries_user() {
+            return giving::plain(res);
+        }
+        if self.already == 0 {
+            return giving::assigned(res, first, first);
+        }
+        giving::assigned(res, first, 0)
     }
-    Deed::Leave
+
+    // The row of the type in the table of effects is to be carried out.
+    #[tactic(auto, unfolding(crate::specs::Plans::plan_of))]
+    fn effecting(self, first: u32, owned: bool) -> Plan
+        ensures { result ≡ plan_of (Ok tt) self first owned }
+    {
+        let effect = self.kind.effect(self.keep);
+        Plan {
+            given: self.granted(first, effect.result),
+            deed: effect.deed(owned),
+        }
+    }
+
+    // The plan by what was found.
+    #[tactic(auto, unfolding(crate::specs::Plans::plan_of))]
+    pub fn plan(self, found: Result<(), Outcome>, first: u32, owned: bool) -> Plan
+        ensures { result ≡ plan_of found self first owned }
+    {
+        match found {
+            Ok(()) => self.effecting(first, owned),
+            Err(result) => Plan::reply_only(giving::plain(result)),
+        }
+    }
 }
 
-// The row of the type in the table of effects is to be carried out.
-fn effecting(s: Sar, first: u32, owned: bool) -> Plan
-    ensures { result ≡ plan_of Finding.Fine s first owned }
-{
-    let kind = s.kind;
-    let e = types::effect_of(kind, s.keep);
-    let result = e.result;
-    Plan {
-        given: granted(s, first, result),
-        deed: deed_of(e, owned),
+impl Effect {
+    // What a row of the table of effects has to be written.
+    #[tactic(auto, unfolding(crate::specs::Plans::deed_of))]
+    fn deed(self, owned: bool) -> Deed
+        ensures { result ≡ deed_of self owned }
+    {
+        if self.write {
+            Deed::Settle(Settling {
+                owned,
+                state: self.state,
+                named: self.named,
+            })
+        } else {
+            Deed::Leave
+        }
     }
 }
 
-pub fn plan_of(f: Finding, s: Sar, first: u32, owned: bool) -> Plan
-    ensures { result ≡ plan_of f s first owned }
-{
-    match f {
-        Finding::Denied(result) => reply_only(giving::plain(result)),
-        Finding::Fine => effecting(s, first, owned),
+impl Plan {
+    // Nothing is written.
+    pub fn reply_only(given: Given) -> Plan
+        ensures { result ≡ only given }
+    {
+        Plan {
+            given,
+            deed: Deed::Leave,
+        }
     }
 }

@@ -27,130 +27,117 @@ pub struct Effect {
 }
 
 // No other number than 0 to 11 is read.
-pub fn type_of(number: u32) -> AssignmentType
-    ensures { result ≡ type_of number }
-{
-    match number {
-        1 => AssignmentType::Registration,
-        2 => AssignmentType::ReRegistration,
-        3 => AssignmentType::UnregisteredUser,
-        4..=5 | 8 | 11 => AssignmentType::Removal,
-        6..=7 => AssignmentType::StoringRemoval,
-        9..=10 => AssignmentType::Failure,
-        _ => AssignmentType::NoAssignment,
+impl From<u32> for AssignmentType {
+    ghost from_gives = { λ number kind. kind ≡ type_of number };
+
+    #[tactic(auto, unfolding(crate::specs::Types::type_of))]
+    fn from(number: u32) -> AssignmentType {
+        match number {
+            1 => AssignmentType::Registration,
+            2 => AssignmentType::ReRegistration,
+            3 => AssignmentType::UnregisteredUser,
+            4..=5 | 8 | 11 => AssignmentType::Removal,
+            6..=7 => AssignmentType::StoringRemoval,
+            9..=10 => AssignmentType::Failure,
+            _ => AssignmentType::NoAssignment,
+        }
     }
 }
 
-// "Removal types are 4, 5, 6, 7, 8, 11."
-pub fn is_removal(kind: AssignmentType) -> bool
-    ensures { result ≡ is_removal kind }
-{
-    match kind {
-        AssignmentType::Removal => true,
-        AssignmentType::StoringRemoval => true,
-        AssignmentType::Failure => false,
-        AssignmentType::NoAssignment => false,
-        AssignmentType::Registration => false,
-        AssignmentType::ReRegistration => false,
-        AssignmentType::UnregisteredUser => false,
+impl AssignmentType {
+    // "Removal types are 4, 5, 6, 7, 8, 11."
+    pub fn is_removal(self) -> bool
+        ensures { result ≡ is_removal self }
+    {
+        matches!(
+            self,
+            AssignmentType::Removal | AssignmentType::StoringRemoval
+        )
+    }
+
+    // Type 0 asks and alters nothing.
+    pub fn asks_only(self) -> bool
+        ensures { result ≡ asks_only self }
+    {
+        matches!(self, AssignmentType::NoAssignment)
+    }
+
+    // "SAR success, types 0 to 3"
+    pub fn carries_user(self) -> bool
+        ensures { result ≡ carries_user self }
+    {
+        !matches!(
+            self,
+            AssignmentType::Removal | AssignmentType::StoringRemoval | AssignmentType::Failure
+        )
+    }
+
+    // "type 2 needs 1; type 3 needs 0 or 2; removals need 1 or 2": the others start from any state.
+    pub fn allows(self, state: u8) -> bool
+        ensures { result ≡ allowed self state }
+    {
+        match self {
+            AssignmentType::Removal | AssignmentType::StoringRemoval => 0 < state,
+            AssignmentType::ReRegistration => state == 1,
+            AssignmentType::UnregisteredUser => (state == 0) | (state == 2),
+            _ => true,
+        }
+    }
+
+    // The row of a type in the table of effects; type 0 writes nothing.
+    pub fn effect(self, keep: bool) -> Effect
+        ensures { result ≡ effect_of self keep }
+    {
+        match self {
+            AssignmentType::NoAssignment => Effect {
+                write: false,
+                state: 0,
+                named: false,
+                result: Outcome::Base(base::SUCCESS),
+            },
+            AssignmentType::Registration | AssignmentType::ReRegistration => Effect::kept(1),
+            AssignmentType::UnregisteredUser => Effect::kept(2),
+            AssignmentType::StoringRemoval => Effect::parked(keep),
+            AssignmentType::Removal | AssignmentType::Failure => {
+                Effect::gone(Outcome::Base(base::SUCCESS))
+            }
+        }
     }
 }
 
-// Type 0 asks and alters nothing.
-pub fn asks_only(kind: AssignmentType) -> bool
-    ensures { result ≡ asks_only kind }
-{
-    match kind {
-        AssignmentType::Removal => false,
-        AssignmentType::StoringRemoval => false,
-        AssignmentType::Failure => false,
-        AssignmentType::NoAssignment => true,
-        AssignmentType::Registration => false,
-        AssignmentType::ReRegistration => false,
-        AssignmentType::UnregisteredUser => false,
+impl Effect {
+    // State 1 or 2, with the request's name.
+    fn kept(state: u8) -> Effect
+        ensures { result ≡ keeping state }
+    {
+        Effect {
+            write: true,
+            state,
+            named: true,
+            result: Outcome::Base(base::SUCCESS),
+        }
     }
-}
 
-// "SAR success, types 0 to 3"
-pub fn carries_user(kind: AssignmentType) -> bool
-    ensures { result ≡ carries_user kind }
-{
-    match kind {
-        AssignmentType::Removal => false,
-        AssignmentType::StoringRemoval => false,
-        AssignmentType::Failure => false,
-        AssignmentType::NoAssignment => true,
-        AssignmentType::Registration => true,
-        AssignmentType::ReRegistration => true,
-        AssignmentType::UnregisteredUser => true,
-    }
-}
-
-// "type 2 needs 1; type 3 needs 0 or 2; removals need 1 or 2": the others start from any state.
-pub fn allows(kind: AssignmentType, state: u8) -> bool
-    ensures { result ≡ allowed kind state }
-{
-    match kind {
-        AssignmentType::Removal => 0 < state,
-        AssignmentType::StoringRemoval => 0 < state,
-        AssignmentType::Failure => true,
-        AssignmentType::NoAssignment => true,
-        AssignmentType::Registration => true,
-        AssignmentType::ReRegistration => state == 1,
-        AssignmentType::UnregisteredUser => (state == 0) | (state == 2),
-    }
-}
-
-// State 1 or 2, with the request's name.
-fn kept(state: u8) -> Effect
-    ensures { result ≡ keeping state }
-{
-    Effect {
-        write: true,
-        state,
-        named: true,
-        result: Outcome::Base(base::SUCCESS),
-    }
-}
-
-// State 0, without a name.
-fn gone(res: Outcome) -> Effect
-    ensures { result ≡ leaving res }
-{
-    Effect {
-        write: true,
-        state: 0,
-        named: false,
-        result: res,
-    }
-}
-
-// Types 6 and 7 go by the header's keep.
-fn parked(keep: bool) -> Effect
-    ensures { result ≡ effect_of AssignmentType.StoringRemoval keep }
-{
-    if keep {
-        return kept(2);
-    }
-    gone(Outcome::Experimental(experimental::SERVER_NAME_NOT_STORED))
-}
-
-// The row of a type in the table of effects; type 0 writes nothing.
-pub fn effect_of(kind: AssignmentType, keep: bool) -> Effect
-    ensures { result ≡ effect_of kind keep }
-{
-    match kind {
-        AssignmentType::Removal => gone(Outcome::Base(base::SUCCESS)),
-        AssignmentType::StoringRemoval => parked(keep),
-        AssignmentType::Failure => gone(Outcome::Base(base::SUCCESS)),
-        AssignmentType::NoAssignment => Effect {
-            write: false,
+    // State 0, without a name.
+    fn gone(res: Outcome) -> Effect
+        ensures { result ≡ leaving res }
+    {
+        Effect {
+            write: true,
             state: 0,
             named: false,
-            result: Outcome::Base(base::SUCCESS),
-        },
-        AssignmentType::Registration => kept(1),
-        AssignmentType::ReRegistration => kept(1),
-        AssignmentType::UnregisteredUser => kept(2),
+            result: res,
+        }
+    }
+
+    // Types 6 and 7 go by the header's keep.
+    fn parked(keep: bool) -> Effect
+        ensures { result ≡ effect_of AssignmentType.StoringRemoval keep }
+    {
+        if keep {
+            Effect::kept(2)
+        } else {
+            Effect::gone(Outcome::Experimental(experimental::SERVER_NAME_NOT_STORED))
+        }
     }
 }

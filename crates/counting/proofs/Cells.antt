@@ -3,8 +3,8 @@ use Rattle.octets.specs.Standard.{ℕ, ◌≤◌, ◌<◌, arith, Bool, true, fa
 use Rattle.counting.specs.Results.{command_row}
 use Rattle.counting.specs.Counted.{cell_of}
 use Rattle.counting.specs.Counting.{Fits}
-use Rattle.counting.specs.declared.Event.{Event}
-use Rattle.counting.specs.declared.Event.TheVariants.{Answered, Refused}
+use Rattle.counting.specs.Event.{Event}
+use Rattle.std.specs.Prelude.{Ok, Err}
 use Rattle.counting.proofs.Columns.{listed_column}
 
 pub row_few : (c : ℕ) → command_row c ≤ 4
@@ -20,10 +20,10 @@ row_few c = go (eqb c 300) (eqb c 301) (eqb c 302) (eqb c 303)
 
 pub cell_above : (e : Event) → Fits e → 5 ≤ cell_of e
 unfolding cell_of
-cell_above (Answered e) f = omega arith
-cell_above (Refused n) f = omega (arith, f.0)
+cell_above (Ok e) f = omega arith
+cell_above (Err n) f = omega (arith, f.0)
 
 pub cell_below : (e : Event) → Fits e → cell_of e < 145
 unfolding cell_of
-cell_below (Answered e) f = omega (arith, row_few e.command, listed_column e.result f)
-cell_below (Refused n) f = omega (arith, f.1)
+cell_below (Ok e) f = omega (arith, row_few e.command, listed_column e.result f)
+cell_below (Err n) f = omega (arith, f.1)

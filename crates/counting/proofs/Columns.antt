@@ -6,7 +6,7 @@ use Rattle.counting.specs.Results.{base_results, experimental_results, index_in,
 use Rattle.counting.specs.Counting.{listed, Listed}
 use Rattle.counting.specs.Counted.{cell_of}
 use Rattle.counting.specs.declared.Entry.{Entry}
-use Rattle.counting.specs.declared.Event.TheVariants.{Answered}
+use Rattle.std.specs.Prelude.{Ok}
 
 pub row_other : (c : ℕ) → (c ≡ 300 → ⊥) → (c ≡ 301 → ⊥) → (c ≡ 302 → ⊥) → (c ≡ 303 → ⊥) → 4 ≡ command_row c
 unfolding command_row
@@ -45,6 +45,6 @@ module _ (o : Outcome) (n : ℕ) {r : ℕ} where
   experimental_few l e f = omega (arith, experimental_column e f, listed_column o l)
 
 module _ (e : Entry) {r k : ℕ} (f : r ≡ command_row e.command) (g : k ≡ column_of e.result) where
-  pub cell_there : 20 + (25 * r + k) ≡ cell_of (Answered e)
+  pub cell_there : 20 + (25 * r + k) ≡ cell_of (Ok e)
   unfolding cell_of
   cell_there = rw (f, g)

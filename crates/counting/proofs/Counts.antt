@@ -4,7 +4,7 @@ use Rattle.octets.specs.Standard.{ap, ◌∙◌, List, [], ◌∷◌, ◌++◌, 
 use Rattle.octets.specs.Standard.{eqb-true, eqb-false}
 use Rattle.counting.specs.Counted.{altered_in, largest_in, how_many, number_at, word_at, values_below, counts_of}
 use Rattle.counting.specs.Counting.{AllFit, no_counts, counted, counted_all}
-use Rattle.counting.specs.declared.Event.{Event}
+use Rattle.counting.specs.Event.{Event}
 use Rattle.counting.proofs.Word.{counted_length, counted_at, counted_small, counted_largest}
 use Rattle.counting.proofs.Numbers.{each_word, number_cell, number_more, word_largest, word_other}
 

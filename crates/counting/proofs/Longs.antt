@@ -1,13 +1,17 @@
 -- The words of a report as bytes: how many they are, and the turns of the loop that writes them.
-use Rattle.octets.specs.Standard.{ℕ, suc, ◌+◌, ◌*◌, ◌≤◌, ◌<◌, arith, add-one, ◌≡◌, refl, ◌∙◌, List, [], ◌∷◌, length, get_or, drop, length-append}
+use Rattle.octets.specs.Standard.{ℕ, suc, ◌+◌, ◌*◌, ◌≤◌, ◌<◌, arith, add-one, ◌≡◌, refl, ◌∙◌, List, [], ◌∷◌, ◌++◌, length, get_or, drop, length-append}
 use Rattle.octets.specs.Standard.{drop_of_length-le, drop-cons}
-use Rattle.octets.specs.Run.{Wrote}
+use Rattle.octets.specs.Run.{Wrote, over}
 use Rattle.octets.proofs.Writes.{Going, going_none, going_more, going_end, lent, back, named}
 use Rattle.counting.specs.Words.{long_bytes, words_bytes}
 
 pub long_length : (n : ℕ) → length (long_bytes n) ≡ 8
 unfolding long_bytes
 long_length n = refl
+
+pub wrote_long : (n : ℕ) {b ys : List ℕ} → ys ≡ long_bytes n → Wrote (long_bytes n) b (ys ++ drop 8 b) 8
+unfolding over long_bytes
+wrote_long n e = record { count = refl; bytes = rw e }
 
 pub bytes_length : (ws : List ℕ) → length (words_bytes ws) ≡ 8 * length ws
 unfolding words_bytes

@@ -4,8 +4,8 @@ use Rattle.octets.specs.Standard.{◌∙◌, List, [], ◌∷◌, ◌++◌, leng
 use Rattle.counting.specs.Counted.{cell_of, is_answered, stands_in, how_many, altered_in, largest_in, number_at, word_at}
 use Rattle.counting.specs.Counting.{Fits}
 use Rattle.counting.specs.Layout.{read_word, stop_word, altered_word, largest_word, answered_word}
-use Rattle.counting.specs.declared.Event.{Event}
-use Rattle.counting.specs.declared.Event.TheVariants.{Answered, Refused}
+use Rattle.counting.specs.Event.{Event}
+use Rattle.std.specs.Prelude.{Ok, Err}
 use Rattle.counting.proofs.Cells.{cell_above}
 use Rattle.counting.proofs.Word.{in_word, in_other, added_by}
 
@@ -36,24 +36,24 @@ cell_past e f j h = in_other (cell_of e) 1 j (omega (arith, cell_above e f))
 
 pub number_more : (e : Event) (es : List Event) → Fits e → (j : ℕ) → (j ≡ 3 → ⊥) → number_at (e ∷ es) j ≡ added_by e j + number_at es j
 unfolding number_at added_by how_many altered_in
-number_more (Answered e) es f =
-    each_word (λ (j : ℕ). (j ≡ 3 → ⊥) → number_at (Answered e ∷ es) j ≡ added_by (Answered e) j + number_at es j)
-    (λ n. omega (arith, cell_past (Answered e) f 0 (omega arith)))
-    (λ n. omega (arith, cell_past (Answered e) f 1 (omega arith)))
-    (λ n. omega (arith, cell_past (Answered e) f 2 (omega arith)))
+number_more (Ok e) es f =
+    each_word (λ (j : ℕ). (j ≡ 3 → ⊥) → number_at (Ok e ∷ es) j ≡ added_by (Ok e) j + number_at es j)
+    (λ n. omega (arith, cell_past (Ok e) f 0 (omega arith)))
+    (λ n. omega (arith, cell_past (Ok e) f 1 (omega arith)))
+    (λ n. omega (arith, cell_past (Ok e) f 2 (omega arith)))
     (λ n. absurd (n refl))
-    (λ n. omega (arith, cell_past (Answered e) f 4 (omega arith)))
+    (λ n. omega (arith, cell_past (Ok e) f 4 (omega arith)))
     (λ j h n.
-    rw (number_cell (Answered e ∷ es) j h, number_cell es j h)
+    rw (number_cell (Ok e ∷ es) j h, number_cell es j h)
     (omega (arith, in_other 0 1 j (omega arith), in_other 2 e.altered j (omega arith), in_other 4 1 j (omega arith))))
-number_more (Refused k) es f =
-    each_word (λ (j : ℕ). (j ≡ 3 → ⊥) → number_at (Refused k ∷ es) j ≡ added_by (Refused k) j + number_at es j)
-    (λ n. omega (arith, cell_past (Refused k) f 0 (omega arith)))
-    (λ n. omega (arith, cell_past (Refused k) f 1 (omega arith)))
-    (λ n. omega (arith, cell_past (Refused k) f 2 (omega arith)))
+number_more (Err k) es f =
+    each_word (λ (j : ℕ). (j ≡ 3 → ⊥) → number_at (Err k ∷ es) j ≡ added_by (Err k) j + number_at es j)
+    (λ n. omega (arith, cell_past (Err k) f 0 (omega arith)))
+    (λ n. omega (arith, cell_past (Err k) f 1 (omega arith)))
+    (λ n. omega (arith, cell_past (Err k) f 2 (omega arith)))
     (λ n. absurd (n refl))
-    (λ n. omega (arith, cell_past (Refused k) f 4 (omega arith)))
-    (λ j h n. rw (number_cell (Refused k ∷ es) j h, number_cell es j h) (omega (arith, in_other 0 1 j (omega arith))))
+    (λ n. omega (arith, cell_past (Err k) f 4 (omega arith)))
+    (λ j h n. rw (number_cell (Err k ∷ es) j h, number_cell es j h) (omega (arith, in_other 0 1 j (omega arith))))
 
 -- two rows of requests
 many_append : (p : Event → Bool) (es fs : List Event) → how_many p (es ++ fs) ≡ how_many p es + how_many p fs

@@ -7,11 +7,11 @@ use Rattle.counting.specs.Counting.{listed}
 use Rattle.counting.specs.Counted.{cell_of, how_many, altered_in, largest_in, number_at}
 use Rattle.counting.specs.Layout.{read_word, altered_word, largest_word, answered_word, refusal_word, cell_word}
 use Rattle.counting.specs.Totals.{sum_from, row_totals, refusal_total}
-use Rattle.counting.specs.declared.Event.{Event}
-use Rattle.counting.specs.declared.Event.TheVariants.{Answered, Refused}
+use Rattle.counting.specs.Event.{Event}
+use Rattle.std.specs.Prelude.{Ok, Err}
 
 answer : ℕ → Outcome → ℕ → ℕ → Event
-answer c o n k = Answered (record { command = c; result = o; length = n; altered = k })
+answer c o n k = Ok (record { command = c; result = o; length = n; altered = k })
 
 -- B5012 of a MAR is column 11 of row 3; X and B of one number stand apart; the last column of every other command is the last word
 -- a refusal by 1 comes after the five words, that by 15 right before row 0
@@ -22,8 +22,8 @@ record Places : Type 0 where
   version : cell_of (answer 301 (Base 5011) 0 0) ≡ 55
   feature : cell_of (answer 301 (Experimental 5011) 0 0) ≡ 69
   last : cell_of (answer 4242 (Experimental 5011) 0 0) ≡ 144
-  no_room_lem : cell_of (Refused 1) ≡ 5
-  output : cell_of (Refused 15) ≡ 19
+  no_room_lem : cell_of (Err 1) ≡ 5
+  output : cell_of (Err 15) ≡ 19
   no_column : listed (Experimental 5012) ≡ false
 
 places : Places
@@ -46,7 +46,7 @@ four : List Event
 four =
     answer 302 (Base 2001) 200 0
     ∷ answer 301 (Base 2001) 620 3
-    ∷ Refused 2
+    ∷ Err 2
     ∷ answer 302 (Base 2001) 196 0
     ∷ []
 

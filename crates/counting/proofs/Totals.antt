@@ -4,8 +4,8 @@ use Rattle.octets.specs.Standard.{◌∷◌, length, eqb, eqb-true, eqb-false, n
 use Rattle.counting.specs.Counted.{cell_of, is_answered, stands_in, how_many, number_at}
 use Rattle.counting.specs.Counting.{Fits, AllFit}
 use Rattle.counting.specs.Totals.{sum_from, row_totals, refusal_total}
-use Rattle.counting.specs.declared.Event.{Event}
-use Rattle.counting.specs.declared.Event.TheVariants.{Answered, Refused}
+use Rattle.counting.specs.Event.{Event}
+use Rattle.std.specs.Prelude.{Ok, Err}
 use Rattle.counting.proofs.Cells.{cell_above, cell_below}
 use Rattle.counting.proofs.Numbers.{number_cell}
 
@@ -82,8 +82,8 @@ cells_answered (e ∷ es) f = cells_more e es 20 125 ∙ go e f.0 (cells_answere
   where
     go : (e : Event) → Fits e → sum_from (cells es) 20 125 ≡ how_many is_answered es
         → sum_from (one (cell_of e)) 20 125 + sum_from (cells es) 20 125 ≡ cond (is_answered e) 1 0 + how_many is_answered es
-    go (Answered a) g q = omega (arith, q, sum_once (cell_of (Answered a)) 20 125 (omega arith) (cell_below (Answered a) g))
-    go (Refused n) g q = omega (arith, q, sum_before (cell_of (Refused n)) 20 125 (omega (arith, g.1)))
+    go (Ok a) g q = omega (arith, q, sum_once (cell_of (Ok a)) 20 125 (omega arith) (cell_below (Ok a) g))
+    go (Err n) g q = omega (arith, q, sum_before (cell_of (Err n)) 20 125 (omega (arith, g.1)))
 
 module _ (es : List Event) (f : AllFit es) where
   rows_cells : row_totals es ≡ sum_from (number_at es) 20 125

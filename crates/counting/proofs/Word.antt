@@ -4,8 +4,8 @@ use Rattle.octets.specs.Standard.{refl, sym, ap, ◌∙◌, List, length, get_or
 use Rattle.counting.specs.Counted.{cell_of, answer_length}
 use Rattle.counting.specs.Counting.{Fits, plus, larger, counted}
 use Rattle.counting.specs.declared.Entry.{Entry}
-use Rattle.counting.specs.declared.Event.{Event}
-use Rattle.counting.specs.declared.Event.TheVariants.{Answered, Refused}
+use Rattle.counting.specs.Event.{Event}
+use Rattle.std.specs.Prelude.{Ok, Err}
 use Rattle.counting.proofs.Cells.{cell_above, cell_below}
 
 -- so many in word i, as word j has it
@@ -61,13 +61,13 @@ sum_then x k v m w e f =
 
 -- what one request adds to a word, that of the largest answer apart
 unfoldable pub added_by : Event → ℕ → ℕ
-added_by (Answered e) j = in_word 0 1 j + in_word 2 e.altered j + in_word 4 1 j + in_word (cell_of (Answered e)) 1 j
-added_by (Refused n) j = in_word 0 1 j + in_word (cell_of (Refused n)) 1 j
+added_by (Ok e) j = in_word 0 1 j + in_word 2 e.altered j + in_word 4 1 j + in_word (cell_of (Ok e)) 1 j
+added_by (Err n) j = in_word 0 1 j + in_word (cell_of (Err n)) 1 j
 
 pub counted_length : (c : List ℕ) (e : Event) → length (counted c e) ≡ length c
 unfolding counted
-counted_length c (Answered e) = simp (plus_length, larger_length)
-counted_length c (Refused n) = simp plus_length
+counted_length c (Ok e) = simp (plus_length, larger_length)
+counted_length c (Err n) = simp plus_length
 
 module _ (c : List ℕ) (l : length c ≡ 145) where
   -- the words after each step
@@ -98,7 +98,7 @@ module _ (c : List ℕ) (l : length c ≡ 145) where
 
   pub counted_at : (e : Event) → Fits e → (j : ℕ) → (j ≡ 3 → ⊥) → get_or (counted c e) j 0 % 2 ^ 64 ≡ (get_or c j 0 + added_by e j) % 2 ^ 64
   unfolding counted added_by
-  counted_at (Answered e) f j n =
+  counted_at (Ok e) f j n =
       let k₂ : ℕ = in_word 0 1 j + in_word 2 e.altered j in
       let p₂ : get_or (c₂ e) j 0 % 2 ^ 64 ≡ (get_or c j 0 + k₂) % 2 ^ 64 =
       sum_then (get_or c j 0) (in_word 0 1 j) (get_or c₁ j 0) (in_word 2 e.altered j) (get_or (c₂ e) j 0)
@@ -107,34 +107,34 @@ module _ (c : List ℕ) (l : length c ≡ 145) where
       let p₃ : get_or (c₃ e) j 0 % 2 ^ 64 ≡ (get_or c j 0 + k₂) % 2 ^ 64 = rw (larger_other e.length (c₂ e) j n) p₂ in
       let p₄ : get_or (c₄ e) j 0 % 2 ^ 64 ≡ (get_or c j 0 + (k₂ + in_word 4 1 j)) % 2 ^ 64 =
       sum_then (get_or c j 0) k₂ (get_or (c₃ e) j 0) (in_word 4 1 j) (get_or (c₄ e) j 0) p₃ (plus_at 1 4 (c₃ e) j (omega (arith, l₃ e))) in
-      sum_then (get_or c j 0) (k₂ + in_word 4 1 j) (get_or (c₄ e) j 0) (in_word (cell_of (Answered e)) 1 j) (get_or (plus 1 (cell_of (Answered e)) (c₄ e)) j 0)
+      sum_then (get_or c j 0) (k₂ + in_word 4 1 j) (get_or (c₄ e) j 0) (in_word (cell_of (Ok e)) 1 j) (get_or (plus 1 (cell_of (Ok e)) (c₄ e)) j 0)
       p₄
-      (plus_at 1 (cell_of (Answered e)) (c₄ e) j (omega (arith, l₄ e, cell_below (Answered e) f)))
-  counted_at (Refused k) f j n =
-      sum_then (get_or c j 0) (in_word 0 1 j) (get_or c₁ j 0) (in_word (cell_of (Refused k)) 1 j) (get_or (plus 1 (cell_of (Refused k)) c₁) j 0)
+      (plus_at 1 (cell_of (Ok e)) (c₄ e) j (omega (arith, l₄ e, cell_below (Ok e) f)))
+  counted_at (Err k) f j n =
+      sum_then (get_or c j 0) (in_word 0 1 j) (get_or c₁ j 0) (in_word (cell_of (Err k)) 1 j) (get_or (plus 1 (cell_of (Err k)) c₁) j 0)
       (plus_at 1 0 c j (omega (arith, l)))
-      (plus_at 1 (cell_of (Refused k)) c₁ j (omega (arith, l₁, cell_below (Refused k) f)))
+      (plus_at 1 (cell_of (Err k)) c₁ j (omega (arith, l₁, cell_below (Err k) f)))
 
   pub counted_small : (e : Event) → Fits e → (j : ℕ) → (j ≡ 3 → ⊥) → get_or c j 0 < 2 ^ 64 → get_or (counted c e) j 0 < 2 ^ 64
   unfolding counted
-  counted_small (Answered e) f j n s =
+  counted_small (Ok e) f j n s =
       let s₁ : get_or c₁ j 0 < 2 ^ 64 = plus_small 1 0 c j (omega (arith, l)) s in
       let s₂ : get_or (c₂ e) j 0 < 2 ^ 64 = plus_small e.altered 2 c₁ j (omega (arith, l₁)) s₁ in
       let s₃ : get_or (c₃ e) j 0 < 2 ^ 64 = rw (larger_other e.length (c₂ e) j n) s₂ in
       let s₄ : get_or (c₄ e) j 0 < 2 ^ 64 = plus_small 1 4 (c₃ e) j (omega (arith, l₃ e)) s₃ in
-      plus_small 1 (cell_of (Answered e)) (c₄ e) j (omega (arith, l₄ e, cell_below (Answered e) f)) s₄
-  counted_small (Refused k) f j n s =
-      plus_small 1 (cell_of (Refused k)) c₁ j (omega (arith, l₁, cell_below (Refused k) f)) (plus_small 1 0 c j (omega (arith, l)) s)
+      plus_small 1 (cell_of (Ok e)) (c₄ e) j (omega (arith, l₄ e, cell_below (Ok e) f)) s₄
+  counted_small (Err k) f j n s =
+      plus_small 1 (cell_of (Err k)) c₁ j (omega (arith, l₁, cell_below (Err k) f)) (plus_small 1 0 c j (omega (arith, l)) s)
 
   -- the largest answer
   pub counted_largest : (e : Event) → Fits e → get_or (counted c e) 3 0 ≡ max (get_or c 3 0) (answer_length e)
   unfolding counted larger
-  counted_largest (Answered e) f =
-      plus_other 1 (cell_of (Answered e)) (c₄ e) 3 (omega (arith, cell_above (Answered e) f))
+  counted_largest (Ok e) f =
+      plus_other 1 (cell_of (Ok e)) (c₄ e) 3 (omega (arith, cell_above (Ok e) f))
       ∙ plus_other 1 4 (c₃ e) 3 (omega arith)
       ∙ get_or-set_same (c₂ e) 3 (max (get_or (c₂ e) 3 0) e.length) 0 (omega (arith, l₂ e))
       ∙ rw (plus_other e.altered 2 c₁ 3 (omega arith), plus_other 1 0 c 3 (omega arith))
-  counted_largest (Refused k) f =
-      plus_other 1 (cell_of (Refused k)) c₁ 3 (omega (arith, cell_above (Refused k) f))
+  counted_largest (Err k) f =
+      plus_other 1 (cell_of (Err k)) c₁ 3 (omega (arith, cell_above (Err k) f))
       ∙ plus_other 1 0 c 3 (omega arith)
       ∙ sym (max-zero (get_or c 3 0))

@@ -2,26 +2,26 @@
 use Rattle.std.specs.Prelude.{ℕ, zero, suc, ◌+◌, ◌%◌, ◌^◌, max, Bool, true, false, cond, List, [], ◌∷◌, length, ◌==◌}
 use Rattle.counting.specs.Layout.{read_word, stop_word, altered_word, largest_word, answered_word, refusal_word, cell_word}
 use Rattle.counting.specs.Results.{command_row, column_of}
-use Rattle.counting.specs.declared.Event.{Event}
-use Rattle.counting.specs.declared.Event.TheVariants.{Answered, Refused}
+use Rattle.counting.specs.Event.{Event}
+use Rattle.std.specs.Prelude.{Ok, Err}
 
 -- the word that a request is counted in: by its command and result, or by its refusal
 unfoldable pub cell_of : Event → ℕ
-cell_of (Answered e) = cell_word (command_row e.command) (column_of e.result)
-cell_of (Refused n) = refusal_word n
+cell_of (Ok e) = cell_word (command_row e.command) (column_of e.result)
+cell_of (Err n) = refusal_word n
 
 -- a refused request is not answered, alters nothing and has no answer's length
 abbrev pub is_answered : Event → Bool
-is_answered (Answered e) = true
-is_answered (Refused n) = false
+is_answered (Ok e) = true
+is_answered (Err n) = false
 
 abbrev pub altered_by : Event → ℕ
-altered_by (Answered e) = e.altered
-altered_by (Refused n) = 0
+altered_by (Ok e) = e.altered
+altered_by (Err n) = 0
 
 abbrev pub answer_length : Event → ℕ
-answer_length (Answered e) = e.length
-answer_length (Refused n) = 0
+answer_length (Ok e) = e.length
+answer_length (Err n) = 0
 
 abbrev pub stands_in : ℕ → Event → Bool
 stands_in i e = cell_of e == i

@@ -4,8 +4,8 @@ use Rattle.reading.specs.declared.Outcome.{Outcome}
 use Rattle.reading.specs.declared.Outcome.TheVariants.{Base, Experimental}
 use Rattle.counting.specs.Results.{base_results, experimental_results, index_in}
 use Rattle.counting.specs.Layout.{read_word, altered_word, largest_word, answered_word}
-use Rattle.counting.specs.declared.Event.{Event}
-use Rattle.counting.specs.declared.Event.TheVariants.{Answered, Refused}
+use Rattle.counting.specs.Event.{Event}
+use Rattle.std.specs.Prelude.{Ok, Err}
 use Rattle.counting.specs.Counted.{cell_of}
 
 -- a result that has a column
@@ -18,8 +18,8 @@ Listed o = listed o ≡ true
 
 -- what can be counted: a result that has a column, a refusal that has a word
 abbrev pub Fits : Event → Type 0
-Fits (Answered e) = Listed e.result
-Fits (Refused n) = (1 ≤ n) × (n ≤ 15)
+Fits (Ok e) = Listed e.result
+Fits (Err n) = (1 ≤ n) × (n ≤ 15)
 
 abbrev pub AllFit : List Event → Type 0
 AllFit [] = Unit
@@ -38,8 +38,8 @@ larger n c = slice_set c largest_word (max (slice_index c largest_word) n)
 
 -- one request more
 unfoldable pub counted : List ℕ → Event → List ℕ
-counted c (Answered e) = plus 1 (cell_of (Answered e)) (plus 1 answered_word (larger e.length (plus e.altered altered_word (plus 1 read_word c))))
-counted c (Refused n) = plus 1 (cell_of (Refused n)) (plus 1 read_word c)
+counted c (Ok e) = plus 1 (cell_of (Ok e)) (plus 1 answered_word (larger e.length (plus e.altered altered_word (plus 1 read_word c))))
+counted c (Err n) = plus 1 (cell_of (Err n)) (plus 1 read_word c)
 
 unfoldable pub counted_all : List ℕ → List Event → List ℕ
 counted_all c [] = c

@@ -1,5 +1,6 @@
 pub mod Counted
 pub mod Counting
+pub mod Event
 pub mod Layout
 pub mod Results
 pub mod Totals

@@ -1,7 +1,7 @@
 -- "the row totals add up to the requests read": those of the five rows, and of the refusals 1 to 15.
 use Rattle.std.specs.Prelude.{ℕ, zero, suc, ◌+◌, List}
 use Rattle.counting.specs.Counted.{number_at}
-use Rattle.counting.specs.declared.Event.{Event}
+use Rattle.counting.specs.Event.{Event}
 use Rattle.counting.specs.Layout.{refusal_word, cell_word}
 
 -- the sum of n words from word i on; of a row's columns, of the five rows, of the refusals

@@ -3,11 +3,10 @@
 pub mod results;
 pub mod words;
 
-ghost use Rattle.std.specs.Prelude.{◌≡◌, ◌+◌, ◌%◌, ◌^◌, ◌<◌, ◌≤◌, max, length};
+ghost use Rattle.std.specs.Prelude.{◌≡◌, ◌<◌, ◌≤◌};
 ghost use Rattle.counting.specs.Counting.{Listed};
 ghost use Rattle.counting.specs.Counted.{cell_of};
 ghost use Rattle.counting.specs.Counting.{Fits, plus, larger, counted};
-ghost use Rattle.counting.specs.declared.Event.TheVariants.{Answered, Refused};
 
 use reading::Outcome;
 
@@ -43,54 +42,32 @@ pub struct Entry {
     pub altered: u32,
 }
 
-// What a request comes to that was read: an answer, or a refusal by its number.
-#[derive(Clone, Copy)]
-pub enum Event {
-    Answered(Entry),
-    Refused(u16),
-}
-
-// A sum of 64 bits.
-fn sum(x: u64, a: u64) -> u64
-    ensures { result ≡ (x + a) % 2 ^ 64 }
-{
-    std::num::wrapping_add_u64(x, a)
-}
-
-// The larger of two numbers.
-fn larger_of(x: u64, n: u64) -> u64
-    ensures { result ≡ max x n }
-{
-    if x < n { n } else { x }
-}
-
 // So many more in word i.
 fn add(counts: &mut [u64; WORDS], i: usize, a: u64)
     requires { i < 145 }
     ensures { counts.new ≡ plus a i counts.old }
 {
-    counts[i] = sum(counts[i], a);
+    counts[i] = counts[i].wrapping_add(a);
 }
 
 // The largest answer so far.
 fn keep_larger(counts: &mut [u64; WORDS], n: u64)
     ensures { counts.new ≡ larger n counts.old }
 {
-    counts[LARGEST_AT] = larger_of(counts[LARGEST_AT], n);
+    counts[LARGEST_AT] = counts[LARGEST_AT].max(n);
 }
 
 // The cell of a command and a result.
 fn cell_of(e: Entry) -> usize
     requires { Listed e.result }
-    ensures { (result ≡ cell_of (Answered e)) × (result < 145) }
+    ensures { (result ≡ cell_of (Ok e)) × (result < 145) }
 {
-    let result = e.result;
-    CELLS_AT + (COLUMNS * results::command_row(e.command) + results::column_of(result))
+    CELLS_AT + (COLUMNS * results::command_row(e.command) + results::column_of(e.result))
 }
 
 fn count_answered(counts: &mut [u64; WORDS], e: Entry)
     requires { Listed e.result }
-    ensures { counts.new ≡ counted counts.old (Answered e) }
+    ensures { counts.new ≡ counted counts.old (Ok e) }
 {
     let cell = cell_of(e);
     add(counts, READ_AT, 1);
@@ -102,19 +79,19 @@ fn count_answered(counts: &mut [u64; WORDS], e: Entry)
 
 fn count_refused(counts: &mut [u64; WORDS], n: u16)
     requires { n ≤ 15 }
-    ensures { counts.new ≡ counted counts.old (Refused n) }
+    ensures { counts.new ≡ counted counts.old (Err n) }
 {
     add(counts, READ_AT, 1);
     add(counts, REFUSED_AT + (n as usize), 1);
 }
 
-// One request more.
-pub fn count(counts: &mut [u64; WORDS], e: Event)
+// One request more that was read: an answer, or a refusal by its number.
+pub fn count(counts: &mut [u64; WORDS], e: Result<Entry, u16>)
     requires { Fits e }
     ensures { counts.new ≡ counted counts.old e }
 {
     match e {
-        Event::Answered(entry) => count_answered(counts, entry),
-        Event::Refused(n) => count_refused(counts, n),
+        Ok(entry) => count_answered(counts, entry),
+        Err(n) => count_refused(counts, n),
     }
 }

@@ -9,6 +9,7 @@ use reading::{Outcome, base, experimental};
 const EXPERIMENTAL_AT: usize = 13;
 
 // The row of a command, and of every other the last.
+#[tactic(auto, using(crate::proofs::Columns::row_other), unfolding(crate::specs::Results::command_row))]
 pub fn command_row(command: usize) -> usize
     ensures { (result ≡ command_row command) × (result ≤ 4) }
 {
@@ -21,6 +22,8 @@ pub fn command_row(command: usize) -> usize
     }
 }
 
+// 13 is no column: `index_in` says so of a number that is not in the list, and `Listed` leaves such a number out.
+#[tactic(auto, using(crate::proofs::Columns::base_none), unfolding(crate::specs::Results::index_in, crate::specs::Results::base_results))]
 fn base_column(n: u32) -> usize
     ensures { (result ≡ index_in n base_results) × (result ≤ 13) }
 {
@@ -42,6 +45,8 @@ fn base_column(n: u32) -> usize
     }
 }
 
+// 12 is no column, likewise.
+#[tactic(auto, using(crate::proofs::Columns::experimental_none), unfolding(crate::specs::Results::index_in, crate::specs::Results::experimental_results))]
 fn experimental_column(n: u32) -> usize
     ensures { (result ≡ index_in n experimental_results) × (result ≤ 12) }
 {

@@ -1,4 +1,5 @@
 -- What is written and what is left, by what reading the request found.
+use Rattle.std.specs.Prelude.{Err}
 use Rattle.octets.specs.Standard.{ℕ, ◌≤◌, List, true, false, ◌≡◌, refl, sym, ap, ◌∙◌, inl, arith, length, ne_eqb}
 use Rattle.octets.specs.Run.{Wrote}
 use Rattle.table.specs.SoundTable.{SoundTable}
@@ -11,8 +12,7 @@ use Rattle.reading.specs.Rules.{Seen}
 use Rattle.requests.specs.Features.{beyond_set, wanted_of}
 use Rattle.requests.specs.Judged.{fine}
 use Rattle.requests.specs.Request.{read_in}
-use Rattle.requests.specs.Found.{judged_of}
-use Rattle.requests.specs.declared.Walked.{Walked}
+use Rattle.requests.specs.Found.{judged_of, Walked}
 use Rattle.requests.specs.declared.features.Wanted.{Wanted}
 use Rattle.requests.proofs.Faulting.{read_placed}
 use Rattle.requests.proofs.Requests.{judged_bad}
@@ -30,11 +30,10 @@ use Rattle.deciding.proofs.Deeds.{plan_fits, plan_light, plan_sendable}
 use Rattle.deciding.proofs.Room.{given_most}
 use Rattle.refusals.specs.Passed.{Passed}
 use Rattle.deciding.specs.Answers.{Planned, Tells}
-use Rattle.requests.specs.declared.Walked.TheVariants as walked
 
 -- Where a decision is a fault: what reading found, or a feature that is not supported.
 module _ (dialect : Dialect) (req t : List ℕ) (count : ℕ) (v : List ℕ) where
-  pub fault_decided : (places : List ℕ) (w : Walked) (f : Verdict) → judged_of req places w ≡ read_in dialect req → w ≡ walked.Fault f
+  pub fault_decided : (places : List ℕ) (w : Walked) (f : Verdict) → judged_of req places w ≡ read_in dialect req → w ≡ Err f
       → decide dialect req t count v ≡ faulted t v f
   unfolding decide_by judged_by
   fault_decided places w f e is = rw (judged_bad req places w (read_in dialect req) e f is)
@@ -71,7 +70,7 @@ module _ (dialect : Dialect) (req t : List ℕ) (count : ℕ) (v : List ℕ) (f 
   fault_vectors = rw is
 
 -- its place lies in the request
-pub fault_near : (dialect : Dialect) (req places o : List ℕ) (w : Walked) (f : Verdict) → judged_of req places w ≡ read_in dialect req → w ≡ walked.Fault f
+pub fault_near : (dialect : Dialect) (req places o : List ℕ) (w : Walked) (f : Verdict) → judged_of req places w ≡ read_in dialect req → w ≡ Err f
     → Passed req o → f.place ≤ 16384
 fault_near dialect req places o w f e is p = omega (
   arith,

@@ -1,12 +1,12 @@
 -- What a request that was read may come to, case by case, with what laws above need of each: it tells, and nothing is written; it settles, as a SAR does; it
 -- challenges, as a MAR does.
+use Rattle.std.specs.Prelude.{Some}
 use Rattle.octets.specs.Standard.{ℕ, ◌/◌, ◌≤◌, ◌<◌, List, ◌∷◌, true, false, ◌≡◌, refl, ◌⊎◌, inl, inr, arith, eqb}
 use Rattle.blocks.specs.Changed.{is_one}
 use Rattle.table.specs.Named.{private_at}
 use Rattle.vectors.specs.Chosen.{none_sent}
 use Rattle.vectors.specs.declared.choice.Sent.{Sent}
 use Rattle.lookup.specs.Find.{find_public}
-use Rattle.lookup.specs.declared.Found.TheVariants.{At}
 use Rattle.rewrite.specs.Change.{after_of, reaches}
 use Rattle.rewrite.specs.Keeps.{Keeps}
 use Rattle.rewrite.specs.Fitting.{Fitting}
@@ -32,7 +32,6 @@ use Rattle.deciding.specs.Plans.{assignment_of}
 use Rattle.deciding.specs.Deeds.{settled_by, challenged_by}
 use Rattle.deciding.specs.DeedFits.{DeedFits}
 use Rattle.deciding.proofs.Read.{Fails}
-use Rattle.assignment.specs.declared.Meant.TheVariants as meant
 
 -- no AVP of the request is at fault
 abbrev pub Blameless : Given → Type 0
@@ -85,7 +84,7 @@ module _ (dialect : Dialect) (req t : List ℕ) (count : ℕ) (v : List ℕ) (se
   pub data Owner : List ℕ → Type 0 where
     the_user : given seen user_name ≡ true → Owner (data_seen seen user_name)
     the_first : (a : List ℕ) (avps : List (List ℕ)) (k : ℕ) → given seen user_name ≡ false → identities (body_of req) ≡ a ∷ avps
-        → find_public t count (data_of a) ≡ At k → Owner (private_at t k)
+        → find_public t count (data_of a) ≡ Some k → Owner (private_at t k)
 
   -- What is written: one change, which keeps what every effect keeps, of records of one subscription, none of them the header, and of their sets.
   pub record Writes (after : List ℕ) : Type 0 where

@@ -1,5 +1,6 @@
 -- A request that was read comes to one of the cases of `Cases`: the decisions of the four commands, walked through once. Laws about decisions go by
 -- `decide_by` and these cases.
+use Rattle.std.specs.Prelude.{Option, Some, None, Ok, Err}
 use Rattle.octets.specs.Standard.{ℕ, ◌≤◌, ◌<◌, List, [], ◌∷◌, map, Bool, true, false, cond, not, ◌&&◌, ◌||◌, true≢false, ◌≡◌, refl, sym, ap, ◌∙◌, inl}
 use Rattle.octets.specs.Standard.{inr, arith, length, eqb, ltb, eqb-true, eqb-false, ne_eqb, ltb-true}
 use Rattle.octets.proofs.All.{and_left, and_right}
@@ -7,8 +8,6 @@ use Rattle.octets.proofs.Names.{same_eq}
 use Rattle.blocks.specs.Changed.{is_one}
 use Rattle.table.specs.Named.{private_at}
 use Rattle.lookup.specs.Find.{is_at, find_public, serves_at, find_server, block_found}
-use Rattle.lookup.specs.declared.Found.{Found}
-use Rattle.lookup.specs.declared.Found.TheVariants.{At, Nothing}
 use Rattle.lookup.specs.Among.{Among}
 use Rattle.lookup.proofs.Among.{public_among}
 use Rattle.lookup.proofs.First.{first_stands}
@@ -36,7 +35,7 @@ use Rattle.requests.proofs.Kept.{read_needed, read_spoken, server_most, server_l
 use Rattle.requests.proofs.Naming.{identities_at}
 use Rattle.choices.specs.Challenges.{claim_of, challenge_of}
 use Rattle.choices.specs.Choices.{authorization, location}
-use Rattle.choices.specs.Plans.{finding_of, grant, deed_of, plan_of}
+use Rattle.choices.specs.Plans.{Finding, finding_of, grant, deed_of, plan_of}
 use Rattle.choices.specs.Types.{is_removal, asks_only, carries_user, effect_of}
 use Rattle.choices.specs.declared.Given.{Given}
 use Rattle.choices.specs.declared.challenge.Claimed.{Claimed}
@@ -45,8 +44,6 @@ use Rattle.choices.specs.declared.choice.Choice.{Choice}
 use Rattle.choices.specs.declared.choice.Choice.TheVariants.{Alone, Server, Capabilities, First}
 use Rattle.choices.specs.declared.choice.Sought.{Sought}
 use Rattle.choices.specs.declared.plan.Deed.TheVariants.{Leave, Settle}
-use Rattle.choices.specs.declared.plan.Finding.{Finding}
-use Rattle.choices.specs.declared.plan.Finding.TheVariants.{Denied, Fine}
 use Rattle.choices.specs.declared.plan.Plan.{Plan}
 use Rattle.choices.specs.declared.plan.Sar.{Sar}
 use Rattle.choices.specs.declared.plan.Survey.{Survey}
@@ -58,9 +55,8 @@ use Rattle.questions.specs.Authentication.{claimed_at, claimed_of, authenticate_
 use Rattle.questions.specs.Authorization.{authorize_found, authorize}
 use Rattle.questions.specs.Carried.{served_by, carried}
 use Rattle.questions.specs.Location.{locate_found, locate}
-use Rattle.assignment.specs.Assignment.{Assignment, meant_by, every, found, find_all, numbers_of, first_of, own_at, survey_of, owner_by, named_survey}
+use Rattle.assignment.specs.Assignment.{Means, Assignment, meant_by, every, found, find_all, numbers_of, first_of, own_at, survey_of, owner_by, named_survey}
 use Rattle.assignment.specs.Assignment.{owned_survey, assign_meant, assign, stored_name, planned_records}
-use Rattle.assignment.specs.declared.Meant.{Meant}
 use Rattle.assignment.proofs.OwnTurns.{no_zero}
 use Rattle.assignment.proofs.Rows.{row_fits}
 use Rattle.deciding.specs.Plans.{assignment_of, uar_plan, sar_plan, lir_plan, mar_plan, plan_read}
@@ -76,9 +72,9 @@ use Rattle.assignment.specs.declared.Meant.TheVariants as meant
 public_within : (t : List ℕ) (count : ℕ) (name : List ℕ) → block_found (find_public t count name) ≤ count
 public_within t count name = go (find_public t count name) refl
   where
-    go : (f : Found) → find_public t count name ≡ f → block_found f ≤ count
-    go (At k) e = (public_among t count name (sym e)).to k refl
-    go Nothing e = omega arith
+    go : (f : Option ℕ) → find_public t count name ≡ f → block_found f ≤ count
+    go (Some k) e = (public_among t count name (sym e)).to k refl
+    go None e = omega arith
 
 -- UAR and LIR
 abbrev ChoiceListed : Choice → Type 0
@@ -116,26 +112,26 @@ module _ (dialect : Dialect) (req t : List ℕ) (count : ℕ) (v : List ℕ) (se
   carried_tells user k h (Capabilities r) l n = of_result dialect req t count v seen r 0 0 k 0 l (omega arith) (omega arith) h (omega arith) (λ e. absurd (n e))
   carried_tells user k h (First r other) l n = go (find_server t count user) refl
     where
-      go : (f : Found) → find_server t count user ≡ f → Tells dialect req t count v seen (served_by f r other k)
-      go (At j) e =
+      go : (f : Option ℕ) → find_server t count user ≡ f → Tells dialect req t count v seen (served_by f r other k)
+      go (Some j) e =
           of_result dialect req t count v seen r 0 j 0 0 l.0 (omega arith) (omega (arith, (first_stands (serves_at t user) count 1 j e).to))
           (omega arith) (omega arith)
           (λ z. absurd (n z))
-      go Nothing e = of_result dialect req t count v seen other 0 0 k 0 l.1 (omega arith) (omega arith) h (omega arith) (λ z. absurd (n z))
+      go None e = of_result dialect req t count v seen other 0 0 k 0 l.1 (omega arith) (omega arith) h (omega arith) (λ z. absurd (n z))
 
 -- SAR. What is found of its records: a listed result, or all are known and of one subscription.
 data Reached (v : Survey) : Finding → Type 0 where
-  denied : (r : Outcome) → Listed r → Reached v (Denied r)
-  clear : v.known ≡ true → v.own ≡ true → Reached v Fine
+  denied : (r : Outcome) → Listed r → Reached v (Err r)
+  clear : v.known ≡ true → v.own ≡ true → Reached v (Ok tt)
 
 reached : (v : Survey) (kind : AssignmentType) → Reached v (finding_of v kind)
 unfolding finding_of listed index_in base_results experimental_results
 reached v kind = go v.known v.own (asks_only kind) v.stores v.fits (v.some && v.right) refl refl
   where
     go : (known own asks stores fits right : Bool) → v.known ≡ known → v.own ≡ own
-        → Reached v (cond (not known) (Denied (Experimental 5001))
-        (cond (not own) (Denied (Experimental 5002)) (cond asks (cond stores Fine (Denied (Base 5012)))
-        (cond (not fits) (Denied (Experimental 5005)) (cond (not right) (Denied (Experimental 5007)) Fine)))))
+        → Reached v (cond (not known) (Err (Experimental 5001))
+        (cond (not own) (Err (Experimental 5002)) (cond asks (cond stores (Ok tt) (Err (Base 5012)))
+        (cond (not fits) (Err (Experimental 5005)) (cond (not right) (Err (Experimental 5007)) (Ok tt))))))
     go false own asks stores fits right a b = denied _ refl
     go true false asks stores fits right a b = denied _ refl
     go true true true true fits right a b = clear a b
@@ -172,18 +168,18 @@ unfolding find_all numbers_of is_one
 named_later t count [] = refl
 named_later t count (a ∷ avps) = go (find_public t count (data_of a)) refl (named_later t count avps)
   where
-    go : (f : Found) → find_public t count (data_of a) ≡ f → is_one (numbers_of (find_all t count avps)) 0 ≡ false
+    go : (f : Option ℕ) → find_public t count (data_of a) ≡ f → is_one (numbers_of (find_all t count avps)) 0 ≡ false
         → is_one (numbers_of (f ∷ find_all t count avps)) 0 ≡ false
-    go Nothing e next = next
-    go (At k) e next = rw (ne_eqb 0 k (omega (arith, (public_among t count (data_of a) (sym e)).from k refl))) next
+    go None e next = next
+    go (Some k) e next = rw (ne_eqb 0 k (omega (arith, (public_among t count (data_of a) (sym e)).from k refl))) next
 
 -- whom it means, by the places of its identities: one at least where it means them, else a User-Name is given
-data Means (given : Bool) (n : ℕ) : Meant → Type 0 where
-  faulty : (f : Verdict) → Listed f.result → Means given n (meant.Fault f)
-  own : given ≡ true → Means given n meant.Owned
-  listing : (place : ℕ) → (n ≡ 0 → ⊥) → Means given n (meant.Listed place)
+data Whom (given : Bool) (n : ℕ) : Means → Type 0 where
+  faulty : (f : Verdict) → Listed f.result → Whom given n (Err f)
+  own : given ≡ true → Whom given n (Ok meant.Owned)
+  listing : (place : ℕ) → (n ≡ 0 → ⊥) → Whom given n (Ok (meant.Listed place))
 
-means : (removal given : Bool) (places : List ℕ) → Means given (length places) (meant_by removal given places)
+means : (removal given : Bool) (places : List ℕ) → Whom given (length places) (meant_by removal given places)
 unfolding meant_by listed index_in base_results
 means true true [] = own refl
 means true false [] = faulty _ refl
@@ -194,16 +190,16 @@ means false given (p ∷ (q ∷ others)) = faulty _ refl
 
 -- MAR. Its steps: a refusal, or the identities match and there is a vector to send.
 data Claim (a : Claimed) : Finding → Type 0 where
-  refused : (r : Outcome) → Fails r → Claim a (Denied r)
-  granted : a.together ≡ true → a.some ≡ true → Claim a Fine
+  refused : (r : Outcome) → Fails r → Claim a (Err r)
+  granted : a.together ≡ true → a.some ≡ true → Claim a (Ok tt)
 
 claim : (a : Claimed) → Claim a (claim_of a)
 unfolding claim_of listed index_in base_results experimental_results number_of
 claim a = go a.known a.together a.served a.some refl refl
   where
     go : (known together served left : Bool) → a.together ≡ together → a.some ≡ left
-        → Claim a (cond (not known) (Denied (Experimental 5001)) (cond (not together) (Denied (Experimental 5002))
-        (cond (not served) (Denied (Experimental 5006)) (cond (not left) (Denied (Base 5012)) Fine))))
+        → Claim a (cond (not known) (Err (Experimental 5001)) (cond (not together) (Err (Experimental 5002))
+        (cond (not served) (Err (Experimental 5006)) (cond (not left) (Err (Base 5012)) (Ok tt)))))
     go false together served left e f = refused _ refl
     go true false served left e f = refused _ refl
     go true true false left e f = refused _ refl
@@ -221,8 +217,8 @@ grant_plain n first r =
 
 pub plan_blameless : (f : Finding) (n : Sar) (first : ℕ) (owned : Bool) → Blameless (plan_of f n first owned).given
 unfolding plan_of
-plan_blameless (Denied r) n first owned = (refl, refl)
-plan_blameless Fine n first owned = (grant_plain n first _).0
+plan_blameless (Err r) n first owned = (refl, refl)
+plan_blameless (Ok done) n first owned = (grant_plain n first _).0
 
 module _ (dialect : Dialect) (req t : List ℕ) (count : ℕ) (v : List ℕ) (seen : Seen) (read : read_in dialect req ≡ fine seen) where
   abbrev Came : Plan → Type 0
@@ -248,7 +244,7 @@ module _ (dialect : Dialect) (req t : List ℕ) (count : ℕ) (v : List ℕ) (se
 
     row_comes : (first : ℕ) (all : Bool) (owner : List ℕ) → first ≤ count → Owner dialect req t count v seen owner
         → every (own_at t owner) (planned_records t count sar all) ≡ true → is_one (planned_records t count sar all) 0 ≡ false
-        → Came (plan_of Fine sar.numbers first all)
+        → Came (plan_of (Ok tt) sar.numbers first all)
     unfolding plan_of deed_of assignment_of own_at
     row_comes first all owner h whose all_own later = go row.write
       where
@@ -301,10 +297,10 @@ module _ (dialect : Dialect) (req t : List ℕ) (count : ℕ) (v : List ℕ) (se
     first_owner_lem false g [] i n k = absurd (n refl)
     first_owner_lem false g (a ∷ avps) i n k = go (find_public t count (data_of a)) refl k
       where
-        go : (f : Found) → find_public t count (data_of a) ≡ f → (is_at f && every is_at (find_all t count avps)) ≡ true
+        go : (f : Option ℕ) → find_public t count (data_of a) ≡ f → (is_at f && every is_at (find_all t count avps)) ≡ true
             → Owner dialect req t count v seen (private_at t (block_found f))
-        go (At j) e h = the_first a avps j g i e
-        go Nothing e h = absurd (true≢false (sym h))
+        go (Some j) e h = the_first a avps j g i e
+        go None e h = absurd (true≢false (sym h))
 
     first_within : (avps : List (List ℕ)) → first_of (find_all t count avps) ≤ count
     unfolding find_all
@@ -323,7 +319,7 @@ module _ (dialect : Dialect) (req t : List ℕ) (count : ℕ) (v : List ℕ) (se
     places_counted : length (places_from 20 (body_of req)) ≡ length (identities (body_of req))
     places_counted = sym (map-length (avp_at req) (places_from 20 (body_of req))) ∙ ap length (identities_at req 20)
 
-    meant_comes : (m : Meant) → Means (given seen user_name) (length (places_from 20 (body_of req))) m → Came (assign_meant t count sar m)
+    meant_comes : (m : Means) → Whom (given seen user_name) (length (places_from 20 (body_of req))) m → Came (assign_meant t count sar m)
     unfolding assign_meant
     meant_comes m (faulty f l) = tells _ (record { carries = carries_fault count f l; none = refl; blames = inl is; apart = other })
     meant_comes m (own g) = owned_comes g _ (reached (owned_survey t count sar) sar.numbers.kind)
@@ -378,12 +374,12 @@ module _ (dialect : Dialect) (req t : List ℕ) (count : ℕ) (v : List ℕ) (se
               };
         })
 
-    found_comes : (f : Found) → Among count f
+    found_comes : (f : Option ℕ) → Among count f
         → Came (authenticate_found t count (data_seen seen user_name) (scheme_of seen) (sending dialect req t count v seen) f)
     unfolding authenticate_found claimed_of claimed_at claim_of challenge_of private_at listed index_in experimental_results number_of
-    found_comes Nothing among = tells _ (alone dialect req t count v seen (Experimental 5001) refl (λ e. refl))
-    found_comes (At k) among =
-        let a = claimed_of t count (data_seen seen user_name) (scheme_of seen) (ltb 0 (sending dialect req t count v seen).count) (At k) in
+    found_comes None among = tells _ (alone dialect req t count v seen (Experimental 5001) refl (λ e. refl))
+    found_comes (Some k) among =
+        let a = claimed_of t count (data_seen seen user_name) (scheme_of seen) (ltb 0 (sending dialect req t count v seen).count) (Some k) in
         challenge_comes k (among.from k refl) (among.to k refl) a (λ e. same_eq (private_at t k) (data_seen seen user_name) e) (λ e. ltb-true 0 _ e)
         (claim_of a) (claim a)
 

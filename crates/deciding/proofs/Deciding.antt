@@ -1,5 +1,5 @@
 -- The plan of each command, and what carrying it out leaves.
-use Rattle.octets.specs.Standard.{ℕ, ◌≤◌, List, [], ◌∷◌, Bool, true, false, ◌≡◌, sym, ◌∙◌, arith, length, eqb}
+use Rattle.octets.specs.Standard.{ℕ, ◌≤◌, List, [], ◌∷◌, Bool, true, false, ◌≡◌, ◌∙◌, arith, length, eqb}
 use Rattle.record.specs.Fields.{keep_of}
 use Rattle.blocks.specs.Blocks.{block_of}
 use Rattle.table.specs.SoundTable.{SoundTable}
@@ -7,12 +7,11 @@ use Rattle.table.proofs.Sound.{sound_size}
 use Rattle.vectors.specs.Chosen.{sent_of}
 use Rattle.vectors.specs.Marked.{spent}
 use Rattle.vectors.specs.declared.choice.Sent.{Sent}
-use Rattle.rewrite.specs.Change.{after_of, reaches, altered_up_to}
+use Rattle.rewrite.specs.Change.{after_of, reaches}
 use Rattle.rewrite.specs.Renew.{settled}
 use Rattle.rewrite.specs.Fitting.{Fitting, change_of, ChangeFits}
 use Rattle.rewrite.specs.declared.Change.{Change}
 use Rattle.rewrite.specs.declared.Change.TheVariants.{Challenged}
-use Rattle.rewrite.proofs.Counts.{altered_none}
 use Rattle.reading.specs.Kinds.{user_name, public_identity, visited_network, server_name, assignment_type, data_available, authorization_type}
 use Rattle.reading.specs.Kinds.{number_auth_items}
 use Rattle.reading.specs.Rules.{Seen}
@@ -40,9 +39,6 @@ pub numbers_read : (t : List ℕ) (seen : Seen) {n already : ℕ} {kind : Assign
     → already ≡ value_seen seen data_available → named ≡ given seen user_name → keep ≡ eqb (keep_of (block_of t 0)) 1
     → record { kind = kind; already = already; named = named; keep = keep } ≡ numbers_in t seen
 numbers_read t seen a b c d e = rw (b, a, c, d, e)
-
-pub keep_read : (t : List ℕ) {h : List ℕ} → h ≡ block_of t 0 → eqb (keep_of h) 1 ≡ eqb (keep_of (block_of t 0)) 1
-keep_read t e = rw e
 
 -- The plan of each command.
 module _ (req t : List ℕ) (count : ℕ) (v : List ℕ) (seen : Seen) {p : Plan} where
@@ -100,9 +96,6 @@ module _ (t : List ℕ) (count : ℕ) (req : List ℕ) (seen : Seen) where
     pub done_challenge : (k : ℕ) {y : List ℕ} → d ≡ Challenge k → y ≡ carried_out req t count seen (Challenge k)
         → y ≡ carried_out req t count seen d
     done_challenge k e f = rw e f
-
-pub left_counts : (t : List ℕ) (count : ℕ) → 0 ≡ altered_up_to t t count
-left_counts t count = sym (altered_none t count)
 
 pub deed_settles : (count : ℕ) (server : List ℕ) (d : Deed) (w : Settling) → d ≡ Settle w → DeedFits count server d
     → Fitting w.state (stored_name w.named server)

@@ -1,8 +1,7 @@
 -- The rules of a call: how a table is checked, how a request is read, which features it may ask for, what is planned for a request that was read, what
 -- carrying it out writes, and what the answer says. Those in force are one value; rules that a later request replaced are others.
-use Rattle.std.specs.Prelude.{ℕ, List, Bool}
+use Rattle.std.specs.Prelude.{ℕ, List, Bool, Result}
 use Rattle.table.specs.Check.{check_table}
-use Rattle.blocks.specs.declared.Checked.{Checked}
 use Rattle.reading.specs.Rules.{Seen}
 use Rattle.reading.specs.declared.Dialect.{Dialect}
 use Rattle.reading.specs.declared.Terms.{Terms}
@@ -17,7 +16,7 @@ use Rattle.deciding.specs.Plans.{plan_read}
 use Rattle.deciding.specs.Deeds.{carried_out}
 
 pub record Rules : Type 0 where
-  pub check : List ℕ → ℕ → Checked
+  pub check : List ℕ → ℕ → Result ℕ ℕ
   pub read : Dialect → List ℕ → Judged
   pub beyond : Terms → List ℕ → Bool
   pub plan : Dialect → List ℕ → List ℕ → ℕ → List ℕ → Seen → Plan

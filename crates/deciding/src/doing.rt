@@ -21,6 +21,7 @@ use vectors::choice::Sent;
 use vectors::mark;
 
 // The server name that a record gets.
+#[tactic(auto, unfolding(assignment::specs::Assignment::stored_name))]
 fn stored(named: bool, server: &[u8]) -> &[u8]
     ensures { result.now ≡ stored_name named server.now }
 {
@@ -28,6 +29,7 @@ fn stored(named: bool, server: &[u8]) -> &[u8]
 }
 
 // A row of the table of effects. Answers how many records have other bytes then.
+#[tactic(auto, unfolding(crate::specs::Deeds::carried_out, assignment::specs::Assignment::planned_records, crate::specs::Plans::assignment_of))]
 fn settle(t: &mut [u8], count: usize, req: &[u8], found: [usize; kinds::KINDS], w: Settling) -> u32
     requires { SoundTable t.old count × Fitting w.state (stored_name w.named (data_seen (seen_of req.now found) server_name)) }
     ensures { (t.new ≡ carried_out req.now t.old count (seen_of req.now found) (Deed.Settle w))
@@ -42,6 +44,7 @@ fn settle(t: &mut [u8], count: usize, req: &[u8], found: [usize; kinds::KINDS], 
 }
 
 // The name that goes with a challenge, in the record and in those of its set. Answers the same.
+#[tactic(auto, unfolding(crate::specs::Deeds::carried_out, rewrite::specs::Fitting::change_of))]
 fn challenge(t: &mut [u8], count: usize, req: &[u8], found: [usize; kinds::KINDS], k: u32) -> u32
     requires { SoundTable t.old count × DeedFits count (data_seen (seen_of req.now found) server_name) (Deed.Challenge k) }
     ensures { (t.new ≡ carried_out req.now t.old count (seen_of req.now found) (Deed.Challenge k))
@@ -52,6 +55,7 @@ fn challenge(t: &mut [u8], count: usize, req: &[u8], found: [usize; kinds::KINDS
 }
 
 // The records. Answers the same.
+#[tactic(auto, using(rewrite::proofs::Counts::altered_none), unfolding(crate::specs::Deeds::carried_out))]
 fn carry_out(t: &mut [u8], count: usize, req: &[u8], found: [usize; kinds::KINDS], d: Deed) -> u32
     requires { SoundTable t.old count × DeedFits count (data_seen (seen_of req.now found) server_name) d }
     ensures { (t.new ≡ carried_out req.now t.old count (seen_of req.now found) d)
@@ -65,14 +69,13 @@ fn carry_out(t: &mut [u8], count: usize, req: &[u8], found: [usize; kinds::KINDS
 }
 
 // The vectors.
+#[tactic(auto, unfolding(crate::specs::Deeds::spent_by))]
 fn spend(v: &mut [u8], sent: Sent, d: Deed)
     requires { SoundVectors v.old × Sendable v.old sent }
     ensures { v.new ≡ spent_by v.old sent d }
 {
-    match d {
-        Deed::Leave => {}
-        Deed::Settle(_) => {}
-        Deed::Challenge(_) => mark::spend(v, sent),
+    if let Deed::Challenge(_) = d {
+        mark::spend(v, sent);
     }
 }
 
@@ -91,10 +94,7 @@ pub fn carry(
         × (v.new ≡ spent_by v.old p.given.sent p.deed)
         × (result ≡ altered_up_to t.old t.new count) }
 {
-    let d = p.deed;
-    let g = p.given;
-    let sent = g.sent;
-    let altered = carry_out(t, count, req, found, d);
-    spend(v, sent, d);
+    let altered = carry_out(t, count, req, found, p.deed);
+    spend(v, p.given.sent, p.deed);
     altered
 }

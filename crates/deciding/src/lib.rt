@@ -17,10 +17,10 @@ ghost use Rattle.deciding.specs.Answers.{Tells};
 use answering::Ground;
 use choices::giving;
 use reading::{Dialect, Outcome, Verdict, experimental, kinds};
-use requests::{Walked, features};
+use requests::features;
 
 // What is said of an answer: its length, and the place of the AVP at fault, 0 where none is; the request's command, the answer's result, and how many
-// records have other bytes then.
+// records have other bytes then. The place is a number, as the definition `decide` has it.
 #[derive(Clone, Copy)]
 pub struct Told {
     pub length: u32,
@@ -29,6 +29,8 @@ pub struct Told {
     pub result: Outcome,
     pub altered: u32,
 }
+
+// The lent slices come one by one: of a struct, each clause would name `lent.entry.t.now` and `lent.exit.t.now`, and `answering` takes them one by one.
 
 // The answer to a request that comes to a fault: nothing is altered.
 fn answer_fault(
@@ -48,15 +50,12 @@ fn answer_fault(
         × (t.now ≡ (decide ground.dialect req.now t.now ground.count v.now).table)
         × (v.now ≡ (decide ground.dialect req.now t.now ground.count v.now).vectors) }
 {
-    let dialect = ground.dialect;
-    let place = f.place;
-    let result = f.result;
     let length = answering::answer(out, req, t, file, v, ground, giving::faulty(f));
     Told {
         length: length as u32,
-        place: place as u16,
-        command: dialect.command,
-        result,
+        place: f.place as u16,
+        command: ground.dialect.command,
+        result: f.result,
         altered: 0,
     }
 }
@@ -81,17 +80,13 @@ fn answer_read(
         × (v.new ≡ (decide ground.dialect req.now t.old ground.count v.old).vectors) }
 {
     let p = planning::plan_read(req, t, v, ground, found);
-    let g = p.given;
-    let length = answering::answer(out, req, t, file, v, ground, g);
+    let length = answering::answer(out, req, t, file, v, ground, p.given);
     let altered = doing::carry(t, ground.count, v, req, found, p);
-    let dialect = ground.dialect;
-    let verdict = g.verdict;
-    let result = verdict.result;
     Told {
         length: length as u32,
         place: 0,
-        command: dialect.command,
-        result,
+        command: ground.dialect.command,
+        result: p.given.verdict.result,
         altered,
     }
 }
@@ -114,8 +109,7 @@ fn answer_fine(
         × (t.new ≡ (decide ground.dialect req.now t.old ground.count v.old).table)
         × (v.new ≡ (decide ground.dialect req.now t.old ground.count v.old).vectors) }
 {
-    let wanted = ground.wanted;
-    if wanted.beyond {
+    if ground.wanted.beyond {
         let f = Verdict {
             result: Outcome::Experimental(experimental::FEATURE_UNSUPPORTED),
             place: 0,
@@ -150,11 +144,9 @@ fn answer_taken(
         × (t.new ≡ (decide asked.dialect req.now t.old asked.count v.old).table)
         × (v.new ≡ (decide asked.dialect req.now t.old asked.count v.old).vectors) }
 {
-    let dialect = asked.dialect;
-    let wanted = features::wanted_read(req, dialect, found);
     let ground = Ground {
-        dialect,
-        wanted,
+        dialect: asked.dialect,
+        wanted: features::wanted_read(req, asked.dialect, found),
         count: asked.count,
     };
     answer_fine(out, req, t, file, v, ground, found)
@@ -177,14 +169,12 @@ pub fn answer_sound(
 {
     let dialect = asked.dialect;
     let mut found = [0; kinds::KINDS];
-    let w = requests::read_in(req, dialect, &mut found);
-    match w {
-        Walked::Read => answer_taken(out, req, t, file, v, asked, found),
-        Walked::Fault(f) => {
-            let wanted = features::wanted_of(req, dialect.terms);
+    match requests::read_in(req, dialect, &mut found) {
+        Ok(()) => answer_taken(out, req, t, file, v, asked, found),
+        Err(f) => {
             let ground = Ground {
                 dialect,
-                wanted,
+                wanted: features::wanted_of(req, dialect.terms),
                 count: asked.count,
             };
             answer_fault(out, req, t, file, v, ground, f)

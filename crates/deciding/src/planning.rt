@@ -11,9 +11,9 @@ ghost use Rattle.deciding.specs.Plans.{numbers_in, uar_plan, sar_plan, lir_plan,
 ghost use Rattle.deciding.specs.Answers.{Planned};
 
 use answering::Ground;
-use assignment::assigning;
+use assignment::Said;
 use choices::plan::{Plan, Sar};
-use choices::{plan, types};
+use choices::types::AssignmentType;
 use questions::{authentication, authorization, location};
 use reading::kinds;
 use record::header::Header;
@@ -24,15 +24,15 @@ fn keep(t: &[u8]) -> bool
     requires { 512 ≤ length t.now }
     ensures { result ≡ eqb (keep_of (block_of t.now 0)) 1 }
 {
-    let h = blocks::block(t, 0);
-    h[Header::KEEP_AT] == 1
+    blocks::block(t, 0)[Header::KEEP_AT] == 1
 }
 
+#[tactic(auto, unfolding(crate::specs::Plans::uar_plan))]
 fn plan_uar(req: &[u8], t: &[u8], count: usize, found: [usize; kinds::KINDS]) -> Plan
     requires { SoundTable t.now count }
     ensures { result ≡ uar_plan t.now count (seen_of req.now found) }
 {
-    plan::reply_only(authorization::authorize(
+    Plan::reply_only(authorization::authorize(
         t,
         count,
         places::data_of(req, found, kinds::USER_NAME),
@@ -48,38 +48,39 @@ fn numbers(req: &[u8], t: &[u8], found: [usize; kinds::KINDS]) -> Sar
     ensures { result ≡ numbers_in t.now (seen_of req.now found) }
 {
     Sar {
-        kind: types::type_of(places::value_of(req, found, kinds::ASSIGNMENT_TYPE)),
+        kind: AssignmentType::from(places::value_of(req, found, kinds::ASSIGNMENT_TYPE)),
         already: places::value_of(req, found, kinds::DATA_AVAILABLE),
         named: places::given(req, found, kinds::USER_NAME),
         keep: keep(t),
     }
 }
 
+#[tactic(auto, unfolding(crate::specs::Plans::sar_plan, crate::specs::Plans::assignment_of))]
 fn plan_sar(req: &[u8], t: &[u8], count: usize, found: [usize; kinds::KINDS]) -> Plan
     requires { SoundTable t.now count }
     ensures { result ≡ sar_plan req.now t.now count (seen_of req.now found) }
 {
-    assigning::plan_sar(
-        t,
-        count,
-        req,
-        numbers(req, t, found),
-        places::data_of(req, found, kinds::SERVER_NAME),
-        places::data_of(req, found, kinds::USER_NAME),
-    )
+    let said = Said {
+        numbers: numbers(req, t, found),
+        server: places::data_of(req, found, kinds::SERVER_NAME),
+        user: places::data_of(req, found, kinds::USER_NAME),
+    };
+    said.plan(t, count, req)
 }
 
+#[tactic(auto, unfolding(crate::specs::Plans::lir_plan))]
 fn plan_lir(req: &[u8], t: &[u8], count: usize, found: [usize; kinds::KINDS]) -> Plan
     requires { SoundTable t.now count }
     ensures { result ≡ lir_plan t.now count (seen_of req.now found) }
 {
-    plan::reply_only(location::locate(
+    Plan::reply_only(location::locate(
         t,
         count,
         places::data_of(req, found, kinds::PUBLIC_IDENTITY),
     ))
 }
 
+#[tactic(auto, unfolding(crate::specs::Plans::mar_plan))]
 fn plan_mar(req: &[u8], t: &[u8], count: usize, v: &[u8], found: [usize; kinds::KINDS]) -> Plan
     requires { SoundTable t.now count × SoundVectors v.now }
     ensures { result ≡ mar_plan t.now count v.now (seen_of req.now found) }
@@ -107,15 +108,10 @@ pub fn plan_read(
     ensures { Planned ground.dialect req.now t.now ground.count v.now (seen_of req.now found) result }
 {
     let count = ground.count;
-    let dialect = ground.dialect;
-    if dialect.command == reading::UAR {
-        return plan_uar(req, t, count, found);
+    match ground.dialect.command {
+        reading::UAR => plan_uar(req, t, count, found),
+        reading::SAR => plan_sar(req, t, count, found),
+        reading::LIR => plan_lir(req, t, count, found),
+        _ => plan_mar(req, t, count, v, found),
     }
-    if dialect.command == reading::SAR {
-        return plan_sar(req, t, count, found);
-    }
-    if dialect.command == reading::LIR {
-        return plan_lir(req, t, count, found);
-    }
-    plan_mar(req, t, count, v, found)
 }

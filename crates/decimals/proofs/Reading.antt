@@ -1,5 +1,6 @@
 -- Reading a number: the turns of the loop; what was written is read, and what is read is what is written.
 use Rattle.octets.specs.Standard.{ℕ, zero, suc, ◌+◌, ◌-◌, ◌*◌, ◌/◌, ◌%◌, ◌^◌, ◌<◌, ◌≤◌, Bool, true, false, ◌&&◌, cond, ◌≡◌, refl, sym, ◌∙◌, arith}
+use Rattle.octets.specs.Standard.{◌⊎◌, inl, inr, ne_eqb, lt-leb, and-false}
 use Rattle.octets.specs.Standard.{add-one, eqb, leb, ltb, eqb-true, eq-eqb, le-leb, leb-true, ltb-true, ltb-false, true≢false}
 use Rattle.octets.specs.Standard.{List, [], ◌∷◌, ◌++◌, length, take, drop, get_or, take-suc, get_or-append, get_or-eq_default}
 use Rattle.octets.specs.Standard.{get_or-append-add, take-append-drop, none, some, lit<, pow-le-pow_right, zero-add}
@@ -7,6 +8,7 @@ use lib.Seq.{get_or_at}
 use Rattle.octets.proofs.All.{and_left, and_right}
 use Rattle.octets.proofs.Numbers.{Bytes}
 use Rattle.decimals.specs.Decimal.{digit_count, digits_of, decimal, is_digit, past_digits, value_of, number_in, as_number}
+use Rattle.std.specs.Prelude.{Some, None}
 use Rattle.decimals.specs.declared.Number.{Number}
 use Rattle.decimals.proofs.Sizes.{size_enough, size_few, digits_length}
 
@@ -53,19 +55,17 @@ pub digit_least : (x : ℕ) {b : Bool} → b ≡ is_digit x → b ≡ true → 4
 digit_least x e t = leb-true 48 x (and_left (leb 48 x) (leb x 57) (sym e ∙ t))
 
 -- The answer: a number, or none.
-pub number_read : (s : List ℕ) (most n : ℕ) (d : Number) → d.size ≡ past_digits s 10 0 → d.value ≡ value_of s d.size → n ≡ digit_count d.value
-    → (eqb n d.size && leb d.value most) ≡ true → d ≡ as_number (number_in most s)
-unfolding number_in
-number_read s most n d e f g t =
-    let k : (eqb (digit_count d.value) d.size && leb d.value most) ≡ true = rw (← g) t in
-    let z : d.size ≡ digit_count d.value = sym (eqb-true _ _ (and_left (eqb (digit_count d.value) d.size) _ k)) in
-    let m : number_in most s ≡ some d.value = rw (← e, ← f, k) in
-    rw (m, ← z)
+module _ (s : List ℕ) (most n : ℕ) (d : Number) (e : d.size ≡ past_digits s 10 0) (f : d.value ≡ value_of s d.size) (g : n ≡ digit_count d.value) where
+  pub number_read : n ≡ d.size → d.value ≤ most → Some d ≡ as_number (number_in most s)
+  unfolding number_in
+  number_read k l =
+      let z : digit_count d.value ≡ d.size = sym g ∙ k in
+      rw (← e, ← f, eq-eqb (digit_count d.value) d.size z, le-leb d.value most l, z)
 
-pub number_none : (s : List ℕ) (most n : ℕ) (d : Number) → d.size ≡ past_digits s 10 0 → d.value ≡ value_of s d.size → n ≡ digit_count d.value
-    → (eqb n d.size && leb d.value most) ≡ false → record { size = 0; value = 0 } ≡ as_number (number_in most s)
-unfolding number_in
-number_none s most n d e f g t = rw (← e, ← f, ← g, t)
+  pub number_none : (n ≡ d.size × (most < d.value)) ⊎ (n ≡ d.size → ⊥) → None ≡ as_number (number_in most s)
+  unfolding number_in
+  number_none (inl h) = rw (← e, ← f, lt-leb d.value most h.1, and-false)
+  number_none (inr h) = rw (← e, ← f, ne_eqb (digit_count d.value) d.size (λ z. h (g ∙ z)))
 
 -- Digits that were written are digits, and make the number again.
 digits_are : (k n : ℕ) (j : ℕ) → j < k → is_digit (get_or (digits_of k n) j 0) ≡ true

@@ -1,46 +1,33 @@
 -- How many digits a number has: the turns of the loop that counts them, and that they are enough.
-use Rattle.octets.specs.Standard.{ℕ, zero, suc, ◌+◌, ◌-◌, ◌/◌, ◌^◌, ◌<◌, ◌≤◌, Bool, true, false, ◌&&◌, cond, ◌≡◌, refl, arith, ltb, leb}
-use Rattle.octets.specs.Standard.{lt-ltb, le-ltb, ltb-true, ltb-false, leb-true, leb-false, length, length-append}
-use Rattle.octets.proofs.All.{and_left, and_right}
+use Rattle.octets.specs.Standard.{ℕ, zero, suc, ◌+◌, ◌-◌, ◌/◌, ◌^◌, ◌<◌, ◌≤◌, Bool, true, false, cond, ◌≡◌, refl, arith, ltb}
+use Rattle.octets.specs.Standard.{lt-ltb, le-ltb, ltb-true, length, length-append}
 use Rattle.decimals.specs.Decimal.{digits_more, digit_count, digits_of, decimal}
 
 pub size_none : (n : ℕ) → digit_count n ≡ 1 + digits_more (10 - 1) n
 unfolding digit_count
 size_none n = omega arith
 
--- what the test of the loop says
-module _ (size rest : ℕ) (more : (ltb size 10 && leb 10 rest) ≡ true) where
-  pub size_below : size + 1 ≤ 10
-  size_below = omega (arith, ltb-true size 10 (and_left (ltb size 10) (leb 10 rest) more))
-
-  pub size_less : 10 - (size + 1) < 10 - size
-  size_less = omega (arith, size_below)
-
 module _ (n size rest : ℕ) (left : digit_count n ≡ size + digits_more (10 - size) rest) where
-  pub size_more : (ltb size 10 && leb 10 rest) ≡ true → digit_count n ≡ size + 1 + digits_more (10 - (size + 1)) (rest / 10)
+  pub size_more : size < 10 → 10 ≤ rest → digit_count n ≡ size + 1 + digits_more (10 - (size + 1)) (rest / 10)
   unfolding digits_more
-  size_more t =
-      let h : size + 1 ≤ 10 = size_below size rest t in
-      let l : 10 ≤ rest = leb-true 10 rest (and_right (ltb size 10) (leb 10 rest) t) in
+  size_more h l =
       let d : 10 - size ≡ suc (10 - (size + 1)) = omega arith in
       let m : digit_count n ≡ size + suc (digits_more (10 - (size + 1)) (rest / 10)) = rw (d, le-ltb rest 10 l) at left in
       omega arith
 
-  pub size_end : (ltb size 10 && leb 10 rest) ≡ false → size ≤ 10 → size ≡ digit_count n
+  pub size_last : size < 10 → rest < 10 → size ≡ digit_count n
   unfolding digits_more
-  size_end t b = go (ltb size 10) (leb 10 rest) refl refl t
-    where
-      go : (x y : Bool) → ltb size 10 ≡ x → leb 10 rest ≡ y → (x && y) ≡ false → size ≡ digit_count n
-      go false y e f g =
-          let d : 10 - size ≡ 0 = omega (arith, ltb-false size 10 e) in
-          let m : digit_count n ≡ size + 0 = rw d at left in
-          omega arith
-      go true false e f g =
-          let h : size < 10 = ltb-true size 10 e in
-          let d : 10 - size ≡ suc (10 - (size + 1)) = omega arith in
-          let m : digit_count n ≡ size + 0 = rw (d, lt-ltb rest 10 (leb-false 10 rest f)) at left in
-          omega arith
-      go true true e f g = let z : ◌≡◌ {A = ℕ} 0 1 = cc in absurd (omega arith)
+  size_last h l =
+      let d : 10 - size ≡ suc (10 - (size + 1)) = omega arith in
+      let m : digit_count n ≡ size + 0 = rw (d, lt-ltb rest 10 l) at left in
+      omega arith
+
+  pub size_end : 10 ≤ size → size ≤ 10 → 10 ≡ digit_count n
+  unfolding digits_more
+  size_end h l =
+      let d : 10 - size ≡ 0 = omega arith in
+      let m : digit_count n ≡ size + 0 = rw d at left in
+      omega arith
 
 -- A number of at most f + 1 digits is below 10 to the power of how many it has.
 more_enough : (f n : ℕ) → n < 10 ^ suc f → n < 10 ^ suc (digits_more f n)
@@ -69,10 +56,6 @@ more_few (suc f) n = go (ltb n 10) (more_few f (n / 10))
 pub size_few : (n : ℕ) → digit_count n ≤ 10
 unfolding digit_count
 size_few n = omega (arith, more_few 9 n)
-
-pub size_some : (n : ℕ) → 1 ≤ digit_count n
-unfolding digit_count
-size_some n = omega arith
 
 -- What is written has as many bytes.
 pub digits_length : (k n : ℕ) → length (digits_of k n) ≡ k

@@ -1,5 +1,6 @@
 -- A number in decimal, as a list has it: no sign, no leading zero.
 use Rattle.std.specs.Prelude.{ℕ, zero, suc, ◌+◌, ◌-◌, ◌*◌, ◌/◌, ◌%◌, Bool, ◌&&◌, cond, List, [], ◌∷◌, ◌++◌, eqb, leb, ltb, get_or}
+use Rattle.std.specs.Prelude.{Option as Maybe, Some, None}
 use Rattle.std.proofs.Math.Option.{Option, none, some}
 use Rattle.decimals.specs.declared.Number.{Number}
 
@@ -41,7 +42,7 @@ number_by most k v = cond (eqb (digit_count v) k && leb v most) (some v) none
 unfoldable pub number_in : ℕ → List ℕ → Option ℕ
 number_in most s = number_by most (past_digits s 10 0) (value_of s (past_digits s 10 0))
 
--- how code has it: the number and its digits, which are none where there is no number
-abbrev pub as_number : Option ℕ → Number
-as_number none = record { size = 0; value = 0 }
-as_number (some v) = record { size = digit_count v; value = v }
+-- how code has it: the number and its digits
+abbrev pub as_number : Option ℕ → Maybe Number
+as_number none = None
+as_number (some v) = Some (record { size = digit_count v; value = v })

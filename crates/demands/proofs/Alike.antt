@@ -1,4 +1,5 @@
 -- Demand 3: two requests that say the same are decided alike. The places of their AVPs may differ, and Failed-AVP holds the same all the same.
+use Rattle.std.specs.Prelude.{Ok, Err}
 use Rattle.octets.specs.Standard.{ℕ, List, [], ◌∷◌, map, Bool, true, false, cond, ◌&&◌, ◌≡◌, refl, sym, ap, ◌∙◌, ◌⊎◌, inl, inr, arith, length, get_or}
 use Rattle.octets.specs.Standard.{eqb, eqb-true, eqb-false}
 use Rattle.diameter.specs.Put.{All}
@@ -22,9 +23,8 @@ use Rattle.choices.specs.declared.Given.{Given}
 use Rattle.choices.specs.declared.plan.Deed.{Deed}
 use Rattle.choices.specs.declared.plan.Deed.TheVariants.{Leave, Settle, Challenge}
 use Rattle.choices.specs.declared.plan.Plan.{Plan}
-use Rattle.assignment.specs.Assignment.{Assignment, meant_by, found, first_of, named_survey, owned_survey, assign_meant, assign, planned_records}
-use Rattle.assignment.specs.declared.Meant.{Meant}
-use Rattle.assignment.specs.declared.Meant.TheVariants.{Fault, Owned, Listed}
+use Rattle.assignment.specs.Assignment.{Assignment, Means, meant_by, found, first_of, named_survey, owned_survey, assign_meant, assign, planned_records}
+use Rattle.assignment.specs.declared.Meant.TheVariants.{Owned, Listed}
 use Rattle.deciding.specs.Plans.{assignment_of, sar_plan, plan_read}
 use Rattle.deciding.specs.Rules.{in_force}
 use Rattle.deciding.specs.Decide.{Decision, performed_by}
@@ -61,16 +61,16 @@ module _ (long short : List ℕ) where
   fault_same v w e f = record { result = e; failed = f; user = refl; public = refl; server = refl; capable = refl; profile = refl; sent = refl }
 
   -- whom a SAR means, by the places of its identities
-  pub data SameMeant : Meant → Meant → Type 0 where
-    fault : (v w : Verdict) → v.result ≡ w.result → failed_by long v ≡ failed_by short w → SameMeant (Fault v) (Fault w)
-    owned : SameMeant Owned Owned
-    named : (p q : ℕ) → SameMeant (Listed p) (Listed q)
+  pub data SameMeant : Means → Means → Type 0 where
+    fault : (v w : Verdict) → v.result ≡ w.result → failed_by long v ≡ failed_by short w → SameMeant (Err v) (Err w)
+    owned : SameMeant (Ok Owned) (Ok Owned)
+    named : (p q : ℕ) → SameMeant (Ok (Listed p)) (Ok (Listed q))
 
   lacking_same : failed_by long (lack_of public_identity) ≡ failed_by short (lack_of public_identity)
   unfolding failed_by
   lacking_same = refl
 
-  second_same : (p q : ℕ) → Stood long 20 p → Stood short 20 q → avp_at long p ≡ avp_at short q → SameMeant (Fault (fault_at 5009 p)) (Fault (fault_at 5009 q))
+  second_same : (p q : ℕ) → Stood long 20 p → Stood short 20 q → avp_at long p ≡ avp_at short q → SameMeant (Err (fault_at 5009 p)) (Err (fault_at 5009 q))
   second_same p q a b e =
       fault (fault_at 5009 p) (fault_at 5009 q) refl
       (failed_there long 5009 p (omega (arith, a.reached))
@@ -82,7 +82,7 @@ module _ (long short : List ℕ) where
   unfolding meant_by
   places_same removal given [] [] e a b = go (removal && given)
     where
-      go : (x : Bool) → SameMeant (cond x Owned (Fault (lack_of public_identity))) (cond x Owned (Fault (lack_of public_identity)))
+      go : (x : Bool) → SameMeant (cond x (Ok Owned) (Err (lack_of public_identity))) (cond x (Ok Owned) (Err (lack_of public_identity)))
       go true = owned
       go false = fault (lack_of public_identity) (lack_of public_identity) refl lacking_same
   places_same removal given [] (q ∷ qs) e a b = absurd (omega (arith, ap length e))
@@ -92,12 +92,12 @@ module _ (long short : List ℕ) where
   places_same removal given (p ∷ (o ∷ ps)) (q ∷ []) e a b = absurd (omega (arith, ap length e))
   places_same removal given (p ∷ (o ∷ ps)) (q ∷ (r ∷ qs)) e a b = go removal
     where
-      go : (x : Bool) → SameMeant (cond x (Listed p) (Fault (fault_at 5009 o))) (cond x (Listed q) (Fault (fault_at 5009 r)))
+      go : (x : Bool) → SameMeant (cond x (Ok (Listed p)) (Err (fault_at 5009 o))) (cond x (Ok (Listed q)) (Err (fault_at 5009 r)))
       go true = named p q
       go false = second_same o r a.1.0 b.1.0 (ap (λ (l : List (List ℕ)). get_or l 1 []) e)
 
   module _ (t : List ℕ) (count : ℕ) (v : List ℕ) where
-    meant_same : (req : List ℕ) (seen : Seen) (s : Assignment) (m n : Meant) → SameMeant m n
+    meant_same : (req : List ℕ) (seen : Seen) (s : Assignment) (m n : Means) → SameMeant m n
         → SameDecision long short (performed_by in_force req t count v seen (assign_meant t count s m))
         (performed_by in_force req t count v seen (assign_meant t count s n))
     unfolding assign_meant performed_by carried_out spent_by
@@ -141,11 +141,11 @@ module _ (long short : List ℕ) where
       plan_alike p b = rw (← performed_alike p) (record { given = blameless_same p.given b; table = refl; vectors = refl })
 
       -- the same SAR but for the places
-      meant_alike : (m : Meant) → assign_meant t count longer m ≡ assign_meant t count shorter m
+      meant_alike : (m : Means) → assign_meant t count longer m ≡ assign_meant t count shorter m
       unfolding assignment_of assign_meant owned_survey named_survey
-      meant_alike (Fault f) = refl
-      meant_alike Owned = refl
-      meant_alike (Listed place) = rw named-same
+      meant_alike (Err f) = refl
+      meant_alike (Ok Owned) = refl
+      meant_alike (Ok (Listed place)) = rw named-same
 
       places_alike : SameMeant (meant_by (is_removal longer.numbers.kind) longer.numbers.named longer.places)
           (meant_by (is_removal shorter.numbers.kind) shorter.numbers.named shorter.places)

@@ -1,10 +1,10 @@
 -- What a call over a table leaves alone, over the area in which the table is lent.
+use Rattle.std.specs.Prelude.{Ok}
 use Rattle.octets.specs.Standard.{ℕ, ◌+◌, ◌-◌, ◌*◌, ◌/◌, ◌<◌, ◌≤◌, Bool, true, false, List, some, ◌≡◌, refl, sym, ap, ◌∙◌, ◌⊎◌, inl, inr, ◌≢◌, arith}
 use Rattle.octets.specs.Standard.{leb, leb-true, leb-false, length, get_or, take, drop, drop-drop}
 use Rattle.record.specs.Fields.{count_of}
 use Rattle.record.specs.HeaderBlock.{header_of}
 use Rattle.blocks.specs.Blocks.{block_of}
-use Rattle.blocks.specs.declared.Checked.TheVariants.{Sound}
 use Rattle.table.specs.Area.{table_in}
 use Rattle.table.specs.Check.{check_table}
 use Rattle.table.specs.Named.{private_at}
@@ -22,7 +22,7 @@ pub area_stays : (a : Lent) → (serve_table (table_only a)).table ≡ table_in 
 area_stays a e = served_stays a (served_in a ∙ e)
 
 -- The blocks of a sound table at the front of an area are the area's.
-module _ (area : List ℕ) (file count : ℕ) (sound : check_table (table_in area) file ≡ Sound count) where
+module _ (area : List ℕ) (file count : ℕ) (sound : check_table (table_in area) file ≡ Ok count) where
   front_count : count_of (block_of area 0) ≡ count
   unfolding header_of
   front_count = ap count_of (sym (in_first area)) ∙ (table_says (table_in area) file count sound).counted
@@ -30,8 +30,8 @@ module _ (area : List ℕ) (file count : ℕ) (sound : check_table (table_in are
   pub front_block : (k : ℕ) → k ≤ count → block_of (table_in area) k ≡ block_of area k
   front_block k h = in_block area k (omega (arith, front_count, h))
 
-module _ (a : Lent) (count : ℕ) (sound : check_of (table_only a) ≡ Sound count) where
-  pub area_checked : check_table (table_in (serve a).table) (length a.profile) ≡ Sound count
+module _ (a : Lent) (count : ℕ) (sound : check_of (table_only a) ≡ Ok count) where
+  pub area_checked : check_table (table_in (serve a).table) (length a.profile) ≡ Ok count
   area_checked = ap (λ (t : List ℕ). check_table t (length a.profile)) (served_in a) ∙ sound_kept (table_only a) count sound
 
   -- a block within the count, before and after; one past it

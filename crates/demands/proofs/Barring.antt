@@ -1,4 +1,5 @@
 -- "B5003 now exactly when the identity is barred and no non-barred one shares its nonzero set; its place is the same": the result of a UAR.
+use Rattle.std.specs.Prelude.{Result, Ok, Option, Some, None}
 use Rattle.octets.specs.Standard.{ℕ, ◌≤◌, List, Bool, true, false, true≢false, ◌≡◌, refl, sym, ap, subst, ◌∙◌, ◌⊎◌, inl, inr, ◌≢◌, arith, length}
 use Rattle.octets.proofs.Names.{same_eq, same_yes, same_no}
 use Rattle.record.specs.Fields.{bits_of, barred}
@@ -6,13 +7,9 @@ use Rattle.record.specs.Sets.{same_set}
 use Rattle.record.proofs.OneSet.{OneSet, set_says, set_holds}
 use Rattle.blocks.specs.Blocks.{block_of}
 use Rattle.blocks.specs.Changed.{is_one}
-use Rattle.blocks.specs.declared.Checked.{Checked}
-use Rattle.blocks.specs.declared.Checked.TheVariants.{Sound}
 use Rattle.table.specs.Named.{public_at, private_at}
 use Rattle.table.specs.SoundTable.{SoundTable}
 use Rattle.lookup.specs.Find.{is_at, block_found, find_public, find_private, private_is, barred_alone}
-use Rattle.lookup.specs.declared.Found.{Found}
-use Rattle.lookup.specs.declared.Found.TheVariants.{At, Nothing}
 use Rattle.lookup.proofs.First.{first_none, first_some}
 use Rattle.lookup.proofs.Halves.{Only, one_block, found_only, only_found, no_found}
 use Rattle.diameter.specs.Message.{command_of}
@@ -55,7 +52,7 @@ module _ (t : List ℕ) (count : ℕ) where
   alone_holds k s = barred_holds t count k (record { own = s.own; others = λ j a b h. s.others j a b (shares_says t k j h) })
 
   -- the record of a public identity; whether some record has a private one
-  pub stands_found : SoundTable t count → (k : ℕ) (public : List ℕ) → Stands t count k public → find_public t count public ≡ At k
+  pub stands_found : SoundTable t count → (k : ℕ) (public : List ℕ) → Stands t count k public → find_public t count public ≡ Some k
   stands_found sound k public s =
       only_found t count public k
       (record {
@@ -76,14 +73,14 @@ module _ (t : List ℕ) (count : ℕ) where
       (λ j a b. same_no _ _ (λ q. h j (record { from = a; to = omega arith; name = q }))))
 
 -- the table that is lent is sound, and the result of the call is that over as many records as it has
-module _ (x : Lent) (count : ℕ) (sound : check_of x ≡ Sound count) where
+module _ (x : Lent) (count : ℕ) (sound : check_of x ≡ Ok count) where
   pub lent_sound : SoundTable x.table count
   lent_sound = record { file = length x.profile; checked = sound }
 
   pub result_counted : result_of x ≡ (decision x count).given.verdict.result
-  result_counted = ap (λ (c : Checked). (decision x (check_value c)).given.verdict.result) sound
+  result_counted = ap (λ (c : Result ℕ ℕ). (decision x (check_value c)).given.verdict.result) sound
 
-module _ (x : Lent) (count : ℕ) (sound : check_of x ≡ Sound count) (uar : command_of x.request ≡ 300) where
+module _ (x : Lent) (count : ℕ) (sound : check_of x ≡ Ok count) (uar : command_of x.request ≡ 300) where
   abbrev t : List ℕ
   t = x.table
 
@@ -94,10 +91,10 @@ module _ (x : Lent) (count : ℕ) (sound : check_of x ≡ Sound count) (uar : co
     abbrev public : List ℕ
     public = data_seen seen public_identity
 
-    abbrev asked : Found → Asked
+    abbrev asked : Option ℕ → Asked
     asked f = asked_of t count user (data_seen seen visited_network) f
 
-    abbrev result_at : Found → Outcome
+    abbrev result_at : Option ℕ → Outcome
     result_at f = (carried t count user (block_found f) (authorization (asked f) (value_seen seen authorization_type))).verdict.result
 
     decided_is : (decision x count).given.verdict.result ≡ result_at (find_public t count public)
@@ -107,14 +104,14 @@ module _ (x : Lent) (count : ℕ) (sound : check_of x ≡ Sound count) (uar : co
     result_is : result_of x ≡ result_at (find_public t count public)
     result_is = result_counted x count sound ∙ decided_is
 
-    found_result : (f : Found) → find_public t count public ≡ f → result_of x ≡ result_at f
+    found_result : (f : Option ℕ) → find_public t count public ≡ f → result_of x ≡ result_at f
     found_result f e = result_is ∙ ap result_at e
 
-    found_barred : (f : Found) → find_public t count public ≡ f → result_at f ≡ Base 5003 → Barred x count
+    found_barred : (f : Option ℕ) → find_public t count public ≡ f → result_at f ≡ Base 5003 → Barred x count
     unfolding asked_of asked_at private_at
-    found_barred Nothing e r = absurd (true≢false (sym (barred_asked (asked Nothing) _ t count user 0 r).0))
-    found_barred (At k) e r =
-        let a = barred_asked (asked (At k)) _ t count user k r in
+    found_barred None e r = absurd (true≢false (sym (barred_asked (asked None) _ t count user 0 r).0))
+    found_barred (Some k) e r =
+        let a = barred_asked (asked (Some k)) _ t count user k r in
         let o : Only t count public k = found_only t count public (lent_sound x count sound) k e in
         record {
           seen = seen;
@@ -128,19 +125,19 @@ module _ (x : Lent) (count : ℕ) (sound : check_of x ≡ Sound count) (uar : co
     unknown : ((k : ℕ) → Stands t count k public → ⊥) ⊎ ((k : ℕ) → Belongs t count k user → ⊥) → result_of x ≡ Experimental 5001
     unfolding asked_of asked_at
     unknown (inl none) =
-        let e : find_public t count public ≡ Nothing = no_found t count public (λ j a b q. none j (record { from = a; to = b; name = q })) in
-        found_result Nothing e ∙ asked_unknown (asked Nothing) _ t count user 0 refl
+        let e : find_public t count public ≡ None = no_found t count public (λ j a b q. none j (record { from = a; to = b; name = q })) in
+        found_result None e ∙ asked_unknown (asked None) _ t count user 0 refl
     unknown (inr none) = go (find_public t count public) refl
       where
-        go : (f : Found) → find_public t count public ≡ f → result_of x ≡ Experimental 5001
-        go Nothing e = found_result Nothing e ∙ asked_unknown (asked Nothing) _ t count user 0 refl
-        go (At k) e = found_result (At k) e ∙ asked_unknown (asked (At k)) _ t count user k (none_known t count user none)
+        go : (f : Option ℕ) → find_public t count public ≡ f → result_of x ≡ Experimental 5001
+        go None e = found_result None e ∙ asked_unknown (asked None) _ t count user 0 refl
+        go (Some k) e = found_result (Some k) e ∙ asked_unknown (asked (Some k)) _ t count user k (none_known t count user none)
 
     apart : (k j : ℕ) → Stands t count k public → Belongs t count j user → private_at t k ≢ user → result_of x ≡ Experimental 5002
     unfolding asked_of asked_at private_at
     apart k j s b n =
-        found_result (At k) (stands_found t count (lent_sound x count sound) k public s)
-        ∙ asked_apart (asked (At k)) _ t count user k (belongs_known t count j user b) (same_no _ _ n)
+        found_result (Some k) (stands_found t count (lent_sound x count sound) k public s)
+        ∙ asked_apart (asked (Some k)) _ t count user k (belongs_known t count j user b) (same_no _ _ n)
 
   pub barred_only : result_of x ≡ Base 5003 → Barred x count
   unfolding is_one
@@ -151,8 +148,8 @@ module _ (x : Lent) (count : ℕ) (sound : check_of x ≡ Sound count) (uar : co
   pub barred_given : Barred x count → result_of x ≡ Base 5003
   unfolding asked_of asked_at private_at
   barred_given b =
-      let f = asked b.seen b.read (At b.block) in
-      found_result b.seen b.read (At b.block) (stands_found t count (lent_sound x count sound) b.block _ b.public)
+      let f = asked b.seen b.read (Some b.block) in
+      found_result b.seen b.read (Some b.block) (stands_found t count (lent_sound x count sound) b.block _ b.public)
       ∙ asked_barred f _ t count _ b.block
       (belongs_known t count b.block _ (record { from = b.public.from; to = b.public.to; name = b.private }))
       (same_yes _ _ b.private) (alone_holds t count b.block b.alone)
@@ -186,7 +183,7 @@ module _ (x : Lent) (count : ℕ) (sound : check_of x ≡ Sound count) (uar : co
       (value_seen seen authorization_type))
   unfolding decide_by judged_by performed_by plan_read uar_plan authorize authorize_found asked_of
   free_given seen read k j s from to h free p =
-      ap (λ (c : Checked). (decision x (check_value c)).given) sound
+      ap (λ (c : Result ℕ ℕ). (decision x (check_value c)).given) sound
       ∙ rw (
         read.read,
         read.inside,

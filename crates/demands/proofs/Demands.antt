@@ -2,6 +2,7 @@
 -- A table is lent at the front of a working area (`a.table`), which may be longer (02 [8]): `table_in` is the table there, by the count in block 0, and
 -- `table_only a` is what is lent, with that table alone. Bytes past the table stay, and do not matter (`promised_past`, `promised_alike`).
 -- What the other words below mean is in specs/Call, specs/Frame and specs/Insertion.
+use Rattle.std.specs.Prelude.{Ok, Err}
 use Rattle.octets.specs.Standard.{ℕ, ◌/◌, ◌%◌, ◌<◌, ◌≤◌, List, ◌∷◌, some, true, false, ◌≡◌, ap, ◌∙◌, sym, ◌⊎◌, ◌≢◌, arith, length, get_or, take, drop}
 use Rattle.octets.specs.Run.{over}
 use Rattle.blocks.specs.Blocks.{block_of}
@@ -9,7 +10,6 @@ use Rattle.table.specs.Named.{private_at}
 use Rattle.table.specs.Area.{size_in, table_in, check_area}
 use Rattle.table.specs.Check.{check_table}
 use Rattle.table.proofs.Areas.{read_alike}
-use Rattle.blocks.specs.declared.Checked.TheVariants.{Sound, Bad}
 use Rattle.vectors.specs.VectorFile.{check_vectors, SoundVectors}
 use Rattle.diameter.specs.Avp.{sound}
 use Rattle.diameter.specs.Put.{Piece, Whole, All}
@@ -115,16 +115,16 @@ module _ (a : Lent) where
   pub demand_1_none : (n k : ℕ) → (serve a).call ≡ Refused n k → n ≢ 5 → k ≡ 0
   demand_1_none = besides_none (table_only a)
 
-  pub demand_1_block : (k : ℕ) → (serve a).call ≡ Refused 5 k → check_area a.table (length a.profile) ≡ Bad k
+  pub demand_1_block : (k : ℕ) → (serve a).call ≡ Refused 5 k → check_area a.table (length a.profile) ≡ Err k
   demand_1_block k e = check_in_lem a ∙ besides_block (table_only a) k e
 
-  pub demand_1_length : (r : Answer) → (serve a).call ≡ Answered r → (count : ℕ) → check_area a.table (length a.profile) ≡ Sound count
+  pub demand_1_length : (r : Answer) → (serve a).call ≡ Answered r → (count : ℕ) → check_area a.table (length a.profile) ≡ Ok count
       → r.length ≡ length (answer_to (table_only a) count)
   demand_1_length r e count s = answer_long (table_only a) r e count (sym (check_in_lem a) ∙ s)
 
   -- No answer is longer than the smallest buffer that is taken: it lies within the buffer.
   pub demand_1_fits : wrong_size a.request ≡ false → wrong_length a.request ≡ false → (count : ℕ)
-      → check_area a.table (length a.profile) ≡ Sound count → SoundVectors a.vectors → length (answer_to (table_only a) count) ≤ 36864
+      → check_area a.table (length a.profile) ≡ Ok count → SoundVectors a.vectors → length (answer_to (table_only a) count) ≤ 36864
   demand_1_fits e f count s v = fits (table_only a) e f count (sym (check_in_lem a) ∙ s) v
 
   pub demand_1_within : call_number (serve a).call ≡ 0 → call_value (serve a).call ≤ length a.buffer
@@ -141,8 +141,8 @@ module _ (a : Lent) where
 -- DEMAND 2. Over an area with a sound table of `count` records at its front a call that is not refused is the decision of documents 01 and 02: the call says
 -- the length of its answer and the decision's place (proofs/Place is about it), the table at the front of the area and the vectors are then the decision's,
 -- and the buffer is the answer's bytes over the buffer as it came.
-module _ (a : Lent) (count : ℕ) (sound : check_area a.table (length a.profile) ≡ Sound count) where
-  abbrev of_table : check_of (table_only a) ≡ Sound count
+module _ (a : Lent) (count : ℕ) (sound : check_area a.table (length a.profile) ≡ Ok count) where
+  abbrev of_table : check_of (table_only a) ≡ Ok count
   of_table = sym (check_in_lem a) ∙ sound
 
   pub demand_2 : turned_away (table_only a) ≡ false
@@ -174,7 +174,7 @@ module _ (a : Lent) (count : ℕ) (sound : check_area a.table (length a.profile)
   demand_2_bits = area_bits a count of_table
 
   -- A sound table is sound after every call, with as many records.
-  pub demand_2_sound : check_area (serve a).table (length a.profile) ≡ Sound count
+  pub demand_2_sound : check_area (serve a).table (length a.profile) ≡ Ok count
   unfolding check_area
   demand_2_sound = area_checked a count of_table
 

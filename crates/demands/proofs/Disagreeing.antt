@@ -1,4 +1,5 @@
 -- "all records of a set agree in state, pending and server name, the later block being blamed": what the check answers.
+use Rattle.std.specs.Prelude.{Ok, Err}
 use Rattle.octets.specs.Standard.{ℕ, ◌+◌, ◌*◌, ◌<◌, ◌≤◌, Bool, true, false, ◌≡◌, refl, List, arith, length, eq-eqb, le-leb}
 use Rattle.octets.proofs.All.{and_right}
 use Rattle.record.specs.HeaderBlock.{header_of}
@@ -6,7 +7,6 @@ use Rattle.record.specs.Sets.{agreeing}
 use Rattle.record.specs.declared.header.Header.{Header}
 use Rattle.record.proofs.OneSet.{Agree, agree_says}
 use Rattle.blocks.specs.Blocks.{block_of}
-use Rattle.blocks.specs.declared.Checked.TheVariants.{Sound, Bad}
 use Rattle.blocks.proofs.First.{FirstNot, bad_holds}
 use Rattle.table.specs.Check.{stands_at, sound_at, check_records, check_table}
 use Rattle.table.proofs.Agreement.{agrees_says}
@@ -19,7 +19,7 @@ module _ (t : List ℕ) (j k : ℕ) where
   agrees e = let a : Agree (block_of t j) (block_of t k) = agree_says _ _ e in record { state = a.state; pending = a.pending; server = a.server }
 
   -- in a sound table
-  pub sound_agree : (file count : ℕ) → check_table t file ≡ Sound count → 1 ≤ j → j < k → k ≤ count → Shares t j k → Agrees t j k
+  pub sound_agree : (file count : ℕ) → check_table t file ≡ Ok count → 1 ≤ j → j < k → k ≤ count → Shares t j k → Agrees t j k
   sound_agree file count e a b c s = agrees (sound_agrees t count (record { file = file; checked = e }) j k a b c (shares_holds t j k s))
 
   -- and in one where they do not, under a sound header and after sound records
@@ -38,7 +38,7 @@ module _ (t : List ℕ) (j k : ℕ) where
     first : FirstNot (sound_at t h file) h.count 1 k
     first = record { from = omega (arith, d.from, d.later); to = omega (arith, d.to); here = here; before = d.before }
 
-    pub disagree_blamed : check_table t file ≡ Bad k
+    pub disagree_blamed : check_table t file ≡ Err k
     unfolding check_table check_records
     disagree_blamed =
         rw (d.header, le-leb 512 (length t) (omega (arith, d.size)), eq-eqb (length t) (512 * (h.count + 1)) d.size)

@@ -7,7 +7,7 @@ use Rattle.reading.specs.declared.Dialect.{Dialect}
 use Rattle.reading.specs.Rules.{Seen}
 use Rattle.reading.specs.Verdicts.{number_of}
 use Rattle.requests.specs.Judged.{fine}
-use Rattle.requests.specs.Request.{read_in, given}
+use Rattle.requests.specs.Request.{read_in}
 use Rattle.choices.specs.declared.plan.Plan.{Plan}
 use Rattle.blocks.specs.Changed.{is_one}
 use Rattle.deciding.specs.Rules.{in_force}

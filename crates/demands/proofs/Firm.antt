@@ -1,4 +1,5 @@
 -- How firm the promise is: it leaves one return for each input, and the word returned decides the answer.
+use Rattle.std.specs.Prelude.{Result, Ok, Err}
 use Rattle.octets.specs.Standard.{ℕ, zero, suc, ◌+◌, ◌*◌, ◌≤◌, ◌<◌, Bool, true, false, ◌&&◌, cond, ◌≡◌, refl, sym, ap, ◌∙◌, inl, inr, ◌≢◌, List, arith}
 use Rattle.octets.specs.Standard.{length, leb, eqb, eq-eqb, ne_eqb}
 use Rattle.record.specs.HeaderBlock.{header_of, sound_header}
@@ -6,8 +7,6 @@ use Rattle.record.proofs.Sound.{header_count}
 use Rattle.blocks.specs.Blocks.{block_of, first_bad}
 use Rattle.table.specs.Area.{table_in, check_area}
 use Rattle.table.specs.Check.{sound_at, check_records, check_table}
-use Rattle.blocks.specs.declared.Checked.{Checked}
-use Rattle.blocks.specs.declared.Checked.TheVariants.{Sound, Bad}
 use Rattle.vectors.specs.VectorFile.{pieces_of, sound_piece, check_vectors}
 use Rattle.vectors.proofs.Pieces.{piece_near}
 use Rattle.calling.specs.Call.{Answer, Answered, Refused}
@@ -18,17 +17,14 @@ use Rattle.ndushavire.specs.Reads.{number_in, take_number, Reads, ReadsCheck, Re
 use Rattle.ndushavire.proofs.Parts.{parts}
 use Rattle.moving.specs.Outcomes.{forward, back}
 use Rattle.moving.specs.Conditions.{ForwardRefuses, BackRefuses}
-use Rattle.moving.specs.declared.Move.{Move}
-use Rattle.moving.specs.declared.Move.TheVariants.{Moved}
+use Rattle.moving.specs.Outcomes.{Move, refused}
 use Rattle.moving.proofs.Moving.{forward_moved, forward_refuses, back_moved, back_refuses}
 use Rattle.taking.specs.Ended.{Ended}
 use Rattle.taking.specs.TakeOver.{take_over}
-use Rattle.taking.specs.declared.Taken.{Taken}
-use Rattle.taking.specs.declared.Taken.TheVariants.{Took}
-use Rattle.taking.specs.declared.Taken.TheVariants as take
+use Rattle.taking.specs.TakeOver.{Taken}
+use Rattle.taking.specs.TakeOver as take
 use Rattle.taking.proofs.Taking.{only_takes, ended}
 use Rattle.ndushavire.specs.Promise.{CheckPromise, CheckVectorsPromise, DecidePromise, ForwardPromise, BackPromise, TakePromise, VersionPromise}
-use Rattle.moving.specs.declared.Move.TheVariants as move
 
 -- Any two returns that meet the promise are equal.
 pub check_unique : (table profile : List ℕ) (r s : ℕ) → CheckPromise table profile r → CheckPromise table profile s → r ≡ s
@@ -67,16 +63,16 @@ refusal_reads number besides l h =
 
 -- So is a check's answer, if what it carries stays below 2^32; n is the number of its refusal.
 module _ (n : ℕ) (some : 1 ≤ n) where
-  check_reads : (c : Checked) → check_value c < 4294967296 → ReadsCheck n c (check_word n c)
-  check_reads (Sound count) h =
+  check_reads : (c : Result ℕ ℕ) → check_value c < 4294967296 → ReadsCheck n c (check_word n c)
+  check_reads (Ok count) h =
       let p = parts 0 0 count (omega arith) h in
       record { number = p.number_is; place = p.place_is; value = p.value_is; answer = rw (eq-eqb (number_in (word 0 0 count)) 0 p.number_is, p.value_is) }
-  check_reads (Bad block) h =
+  check_reads (Err block) h =
       let p = parts n 0 block (omega arith) h in
       let other : number_in (word n 0 block) ≢ 0 = λ q. omega (arith, p.number_is, q) in
       record { number = p.number_is; place = p.place_is; value = p.value_is; answer = rw (ne_eqb (number_in (word n 0 block)) 0 other, p.value_is) }
 
-  word_decides : (c d : Checked) → check_value c ≤ 4096 → check_value d ≤ 4096 → check_word n c ≡ check_word n d → c ≡ d
+  word_decides : (c d : Result ℕ ℕ) → check_value c ≤ 4096 → check_value d ≤ 4096 → check_word n c ≡ check_word n d → c ≡ d
   word_decides c d h k e = sym (check_reads c (omega arith)).answer ∙ rw e (check_reads d (omega arith)).answer
 
 -- It does: no table has more than 4,096 records.
@@ -85,7 +81,7 @@ unfolding first_bad
 first_most good count zero k most h l = h
 first_most good count (suc n) k most h l = go (good k) (first_most good count n (suc k) most h (omega arith))
   where
-    go : (x : Bool) → check_value (first_bad good count n (suc k)) ≤ most → check_value (cond x (first_bad good count n (suc k)) (Bad k)) ≤ most
+    go : (x : Bool) → check_value (first_bad good count n (suc k)) ≤ most → check_value (cond x (first_bad good count n (suc k)) (Err k)) ≤ most
     go true r = r
     go false r = omega arith
 
@@ -94,7 +90,7 @@ unfolding check_table check_records
 check_most t file = go (leb 512 (length t)) (sound_header (block_of t 0)) (eqb (length t) (512 * ((header_of (block_of t 0)).count + 1))) refl
   where
     go : (x y z : Bool) → sound_header (block_of t 0) ≡ y
-        → check_value (cond (x && y && z) (check_records t (header_of (block_of t 0)) file) (Bad 0)) ≤ 4096
+        → check_value (cond (x && y && z) (check_records t (header_of (block_of t 0)) file) (Err 0)) ≤ 4096
     go true true true e =
         let n : (header_of (block_of t 0)).count ≤ 4096 = header_count (block_of t 0) (header_of (block_of t 0)) refl refl e in
         first_most (sound_at t (header_of (block_of t 0)) file) (header_of (block_of t 0)).count (header_of (block_of t 0)).count 1 4096 n (omega arith)
@@ -114,7 +110,7 @@ near_most good most near count zero k e h = omega arith
 near_most good most near count (suc n) k e h = go (good k) refl (near_most good most near count n (suc k) (omega arith))
   where
     go : (x : Bool) → good k ≡ x → (suc k ≤ most → check_value (first_bad good count n (suc k)) ≤ most)
-        → check_value (cond x (first_bad good count n (suc k)) (Bad k)) ≤ most
+        → check_value (cond x (first_bad good count n (suc k)) (Err k)) ≤ most
     go true g r = r (omega (arith, near k g))
     go false g r = h
 
@@ -138,12 +134,12 @@ pub check_vectors_decides : (v w : List ℕ) → check_word 6 (check_vectors v) 
 check_vectors_decides v w = word_decides 6 (omega arith) (check_vectors v) (check_vectors w) (vectors_most v) (vectors_most w)
 
 -- The moves between editions.
-moved_reads : (count : ℕ) → count ≤ 4096 → ReadsMove (Moved count) (move_word (Moved count))
+moved_reads : (count : ℕ) → count ≤ 4096 → ReadsMove (Ok count) (move_word (Ok count))
 moved_reads count h =
     let p = parts 0 0 count (omega arith) (omega arith) in
     record { number = p.number_is; place = p.place_is; value = p.value_is; move = rw (eq-eqb (number_in (word 0 0 count)) 0 p.number_is, p.value_is) }
 
-unmoved_reads : (number block : ℕ) → 1 ≤ number → block ≤ 4096 → ReadsMove (move.Refused number block) (move_word (move.Refused number block))
+unmoved_reads : (number block : ℕ) → 1 ≤ number → block ≤ 4096 → ReadsMove (refused number block) (move_word (refused number block))
 unmoved_reads number block l h =
     let p = parts number 0 block (omega arith) (omega arith) in
     let other : number_in (word number 0 block) ≢ 0 = λ q. omega (arith, p.number_is, q) in
@@ -155,10 +151,10 @@ unmoved_reads number block l h =
     }
 
 -- a count and a block that the check told
-count_most : (t : List ℕ) (file count : ℕ) → check_table t file ≡ Sound count → count ≤ 4096
+count_most : (t : List ℕ) (file count : ℕ) → check_table t file ≡ Ok count → count ≤ 4096
 count_most t file count e = rw e at (check_most t file)
 
-block_most : (t : List ℕ) (file block : ℕ) → check_table t file ≡ Bad block → block ≤ 4096
+block_most : (t : List ℕ) (file block : ℕ) → check_table t file ≡ Err block → block ≤ 4096
 block_most t file block e = rw e at (check_most t file)
 
 pub forward_said : (table profile : List ℕ) (issue : ℕ) {r : ℕ} {t : List ℕ} → ForwardPromise table profile issue r t
@@ -168,13 +164,13 @@ forward_said table profile issue p = rw p.word_is (go (forward table file issue)
     file : ℕ
     file = length profile
 
-    refuses : (number block : ℕ) → ForwardRefuses table file number block → ReadsMove (move.Refused number block) (move_word (move.Refused number block))
+    refuses : (number block : ℕ) → ForwardRefuses table file number block → ReadsMove (refused number block) (move_word (refused number block))
     refuses number block (n, inl e) = unmoved_reads number block (omega arith) (block_most table file block e)
     refuses number block (n, inr (o, z)) = unmoved_reads number block (omega arith) (omega arith)
 
     go : (m : Move) → (forward table file issue).move ≡ m → ReadsMove m (move_word m)
-    go (Moved count) e = moved_reads count (count_most table file count (forward_moved table file issue count e).checked)
-    go (move.Refused number block) e = refuses number block (forward_refuses table file issue number block e)
+    go (Ok count) e = moved_reads count (count_most table file count (forward_moved table file issue count e).checked)
+    go (Err r) e = refuses r.number r.block (forward_refuses table file issue r.number r.block e)
 
 pub back_said : (table profile : List ℕ) {r : ℕ} {t : List ℕ} → BackPromise table profile r t → ReadsMove (back table (length profile)).move r
 back_said table profile p = rw p.word_is (go (back table file).move refl)
@@ -182,15 +178,15 @@ back_said table profile p = rw p.word_is (go (back table file).move refl)
     file : ℕ
     file = length profile
 
-    refuses : (number block : ℕ) → BackRefuses table file number block → ReadsMove (move.Refused number block) (move_word (move.Refused number block))
+    refuses : (number block : ℕ) → BackRefuses table file number block → ReadsMove (refused number block) (move_word (refused number block))
     refuses number block (inl (n, inl e)) = unmoved_reads number block (omega arith) (block_most table file block e)
     refuses number block (inl (n, inr (o, z))) = unmoved_reads number block (omega arith) (omega arith)
     refuses number block (inr (n, h)) =
         unmoved_reads number block (omega arith) (omega (arith, h.first.to, count_most table file h.count h.checked))
 
     go : (m : Move) → (back table file).move ≡ m → ReadsMove m (move_word m)
-    go (Moved count) e = moved_reads count (count_most table file count (back_moved table file count e).checked)
-    go (move.Refused number block) e = refuses number block (back_refuses table file number block e)
+    go (Ok count) e = moved_reads count (count_most table file count (back_moved table file count e).checked)
+    go (Err r) e = refuses r.number r.block (back_refuses table file r.number r.block e)
 
 pub forward_unique : (table profile : List ℕ) (issue r s : ℕ) (t u : List ℕ) → ForwardPromise table profile issue r t → ForwardPromise table profile issue s u
     → (r ≡ s) × (t ≡ u)
@@ -200,12 +196,12 @@ pub back_unique : (table profile : List ℕ) (r s : ℕ) (t u : List ℕ) → Ba
 back_unique table profile r s t u p q = (p.word_is ∙ sym q.word_is, p.table_is ∙ sym q.table_is)
 
 -- The take-over.
-took_reads : (count : ℕ) → count ≤ 4096 → ReadsTake (Took count) (take_word (Took count))
+took_reads : (count : ℕ) → count ≤ 4096 → ReadsTake (Ok count) (take_word (Ok count))
 took_reads count h =
     let p = parts 0 0 count (omega arith) (omega arith) in
     record { number = p.number_is; place = p.place_is; value = p.value_is; take = rw (eq-eqb (number_in (word 0 0 count)) 0 p.number_is, p.value_is) }
 
-untaken_reads : (number : ℕ) → 1 ≤ number → ReadsTake (take.Refused number) (take_word (take.Refused number))
+untaken_reads : (number : ℕ) → 1 ≤ number → ReadsTake (take.refused number) (take_word (take.refused number))
 untaken_reads number l =
     let p = parts number 0 0 (omega arith) (omega arith) in
     let other : number_in (word number 0 0) ≢ 0 = λ q. omega (arith, p.number_is, q) in
@@ -223,15 +219,15 @@ take_said area fresh profile p = rw p.word_is (go (take_over area fresh file).ta
     file : ℕ
     file = length profile
 
-    refuses : (number : ℕ) → Ended area fresh file (take.Refused number) → ReadsTake (take.Refused number) (take_word (take.Refused number))
+    refuses : (number : ℕ) → Ended area fresh file (take.refused number) → ReadsTake (take.refused number) (take_word (take.refused number))
     refuses number (inl (e, u)) = untaken_reads number (omega (arith, ap take_number e))
     refuses number (inr (inl (e, u))) = untaken_reads number (omega (arith, ap take_number e))
     refuses number (inr (inr (inl (e, u)))) = untaken_reads number (omega (arith, ap take_number e))
     refuses number (inr (inr (inr (count, e, u)))) = let z : ◌≡◌ {A = ℕ} 0 1 = cc in absurd (omega arith)
 
     go : (t : Taken) → (take_over area fresh file).taken ≡ t → ReadsTake t (take_word t)
-    go (Took count) e = took_reads count (count_most fresh file count (only_takes area fresh file count e).fit.checked)
-    go (take.Refused number) e = refuses number (ended area fresh file (take.Refused number) e)
+    go (Ok count) e = took_reads count (count_most fresh file count (only_takes area fresh file count e).fit.checked)
+    go (Err r) e = refuses r.number (ended area fresh file (take.refused r.number) e)
 
 pub take_unique : (area fresh profile : List ℕ) (r s : ℕ) (a b : List ℕ) → TakePromise area fresh profile r a → TakePromise area fresh profile s b
     → (r ≡ s) × (a ≡ b)

@@ -1,4 +1,5 @@
 -- Demand 2: what a call leaves alone, and that a sound table stays sound.
+use Rattle.std.specs.Prelude.{Ok}
 use Rattle.octets.specs.Standard.{ℕ, zero, suc, ◌+◌, ◌*◌, ◌/◌, ◌≤◌, ◌<◌, List, [], ◌∷◌, Option, some, Bool, true, false, ◌||◌, true≢false, or-true}
 use Rattle.octets.specs.Standard.{◌≡◌, refl, sym, ◌∙◌, ◌⊎◌, inl, inr, ◌≢◌, arith, eqb, length, get_or, eqb-true, eq-eqb}
 use Rattle.record.specs.Sets.{same_set}
@@ -7,7 +8,6 @@ use Rattle.record.proofs.OneSet.{OneSet, set_says}
 use Rattle.blocks.specs.Blocks.{block_of}
 use Rattle.table.specs.Named.{private_at}
 use Rattle.table.specs.Check.{check_table}
-use Rattle.blocks.specs.declared.Checked.TheVariants.{Sound}
 use Rattle.table.specs.SoundTable.{SoundTable}
 use Rattle.table.proofs.Sound.{sound_size}
 use Rattle.rewrite.specs.Change.{reaches}
@@ -59,7 +59,7 @@ module _ (command : ℕ) (t : List ℕ) (count : ℕ) (v : List ℕ) (subscripti
       go false e = rw a.table (after_frame t count a.change size (reaches t a.records) a.keeps k h e)
 
 -- What holds of the table and the vectors as they came, and of those that an effect leaves, holds after every call.
-module _ (x : Lent) (count : ℕ) (sound : check_of x ≡ Sound count) where
+module _ (x : Lent) (count : ℕ) (sound : check_of x ≡ Ok count) where
   abbrev t : List ℕ
   t = x.table
 
@@ -140,7 +140,7 @@ module _ (x : Lent) (count : ℕ) (sound : check_of x ≡ Sound count) where
   pub size_kept : length (serve_table x).table ≡ length t
   size_kept = call_keeping.size
 
-  pub sound_kept : check_table (serve_table x).table (length x.profile) ≡ Sound count
+  pub sound_kept : check_table (serve_table x).table (length x.profile) ≡ Ok count
   sound_kept = table_checked x ∙ sound
 
 -- whatever the table: a question alters nothing, and none but a MAR alters the vectors

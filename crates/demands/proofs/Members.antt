@@ -1,4 +1,5 @@
 -- A removal that names one member of a set more is decided as one that does not name it, wherever it stands among the others.
+use Rattle.std.specs.Prelude.{Option, Some, None, Ok, Err}
 use Rattle.octets.specs.Standard.{ℕ, ◌≤◌, List, [], ◌∷◌, ◌++◌, Bool, true, false, cond, ◌&&◌, ◌||◌, and_assoc, true≢false, ◌≡◌, refl, sym, ap, ◌∙◌}
 use Rattle.octets.specs.Standard.{eqb, length, eqb-true, eq-eqb}
 use Rattle.octets.proofs.All.{and_left, and_right}
@@ -10,22 +11,18 @@ use Rattle.blocks.specs.Changed.{is_one}
 use Rattle.table.specs.Named.{private_at}
 use Rattle.table.specs.SoundTable.{SoundTable}
 use Rattle.lookup.specs.Find.{is_at, find_public}
-use Rattle.lookup.specs.declared.Found.{Found}
-use Rattle.lookup.specs.declared.Found.TheVariants.{At, Nothing}
 use Rattle.rewrite.specs.Change.{after_of, reaches}
 use Rattle.rewrite.specs.Renew.{settled}
 use Rattle.rewrite.proofs.Reaching.{both_ways, reaches_named_one, reaches_closed, reaches_append}
 use Rattle.rewrite.proofs.Tables.{after_choice}
 use Rattle.diameter.specs.Avp.{data_of}
 use Rattle.choices.specs.Types.{is_removal, carries_user}
-use Rattle.choices.specs.Plans.{finding_of, grant, plan_of}
+use Rattle.choices.specs.Plans.{Finding, finding_of, grant, plan_of}
 use Rattle.choices.specs.declared.types.AssignmentType.{AssignmentType}
 use Rattle.choices.specs.declared.types.AssignmentType.TheVariants.{NoAssignment, Registration, ReRegistration, UnregisteredUser, Removal}
 use Rattle.choices.specs.declared.types.AssignmentType.TheVariants.{StoringRemoval, Failure}
 use Rattle.choices.specs.declared.plan.Sar.{Sar}
 use Rattle.choices.specs.declared.plan.Survey.{Survey}
-use Rattle.choices.specs.declared.plan.Finding.{Finding}
-use Rattle.choices.specs.declared.plan.Finding.TheVariants.{Denied, Fine}
 use Rattle.choices.specs.declared.plan.Deed.{Deed}
 use Rattle.choices.specs.declared.plan.Deed.TheVariants.{Leave, Settle, Challenge}
 use Rattle.assignment.specs.Assignment.{Assignment, meant_by, every, is_empty, find_all, numbers_of, first_of, owned_up_to, own_at, stores_at, fits_at, right_at}
@@ -48,11 +45,11 @@ unfolding every
 every_append p [] ys = refl
 every_append p (x ∷ xs) ys = rw (every_append p xs ys) (sym (and_assoc (p x) (every p xs) (every p ys)))
 
-numbers_append : (fs gs : List Found) → numbers_of (fs ++ gs) ≡ numbers_of fs ++ numbers_of gs
+numbers_append : (fs gs : List (Option ℕ)) → numbers_of (fs ++ gs) ≡ numbers_of fs ++ numbers_of gs
 unfolding numbers_of
 numbers_append [] gs = refl
-numbers_append (At k ∷ fs) gs = ap (λ (l : List ℕ). k ∷ l) (numbers_append fs gs)
-numbers_append (Nothing ∷ fs) gs = numbers_append fs gs
+numbers_append (Some k ∷ fs) gs = ap (λ (l : List ℕ). k ∷ l) (numbers_append fs gs)
+numbers_append (None ∷ fs) gs = numbers_append fs gs
 
 one_amid : (ks ls : List ℕ) (k : ℕ) → is_one (ks ++ (k ∷ ls)) k ≡ true
 unfolding is_one
@@ -115,8 +112,8 @@ module _ (t ks ls : List ℕ) (k j : ℕ) (one : same_set (block_of t k) (block_
 -- a removal's answer carries nothing of its first record, and its type is no question
 removal_plain : (s : Sar) (first : ℕ) → is_removal s.kind ≡ true → (f : Finding) (other : ℕ) → plan_of f s first false ≡ plan_of f s other false
 unfolding plan_of grant
-removal_plain s first e (Denied r) other = refl
-removal_plain s first e Fine other = rw (go s.kind e)
+removal_plain s first e (Err r) other = refl
+removal_plain s first e (Ok done) other = rw (go s.kind e)
   where
     go : (kind : AssignmentType) → is_removal kind ≡ true → carries_user kind ≡ false
     go NoAssignment f = absurd (true≢false (sym f))
@@ -129,20 +126,20 @@ removal_plain s first e Fine other = rw (go s.kind e)
 
 -- Identities before and after the one more, which is in block j; one of them is in block k.
 module _ (t : List ℕ) (count : ℕ) (sound : SoundTable t count) (k j : ℕ) (a : 1 ≤ k) (b : k ≤ count) (c : 1 ≤ j) (d : j ≤ count)
-    (one : same_set (block_of t k) (block_of t j) ≡ true) (fs gs : List Found) (there : is_one (numbers_of fs ++ numbers_of gs) k ≡ true) where
-  abbrev more : List Found
-  more = fs ++ (At j ∷ gs)
+    (one : same_set (block_of t k) (block_of t j) ≡ true) (fs gs : List (Option ℕ)) (there : is_one (numbers_of fs ++ numbers_of gs) k ≡ true) where
+  abbrev more : List (Option ℕ)
+  more = fs ++ (Some j ∷ gs)
 
-  abbrev fewer : List Found
+  abbrev fewer : List (Option ℕ)
   fewer = fs ++ gs
 
   all_more : every is_at more ≡ every is_at fewer
   unfolding every
-  all_more = every_append is_at fs (At j ∷ gs) ∙ sym (every_append is_at fs gs)
+  all_more = every_append is_at fs (Some j ∷ gs) ∙ sym (every_append is_at fs gs)
 
   more_numbers : numbers_of more ≡ numbers_of fs ++ (j ∷ numbers_of gs)
   unfolding numbers_of
-  more_numbers = numbers_append fs (At j ∷ gs)
+  more_numbers = numbers_append fs (Some j ∷ gs)
 
   fewer_numbers : numbers_of fewer ≡ numbers_of fs ++ numbers_of gs
   fewer_numbers = numbers_append fs gs
@@ -172,14 +169,14 @@ module _ (t : List ℕ) (count : ℕ) (sound : SoundTable t count) (k j : ℕ) (
   own_first true user known = each_same (own_at t user) (own_same user)
   own_first false user known = go fs gs refl refl
     where
-      go : (xs ys : List Found) → fs ≡ xs → gs ≡ ys
+      go : (xs ys : List (Option ℕ)) → fs ≡ xs → gs ≡ ys
           → every (own_at t (private_at t (first_of more))) (numbers_of more) ≡ every (own_at t (private_at t (first_of fewer))) (numbers_of fewer)
       go (x ∷ xs) ys e f =
           let q : first_of more ≡ first_of fewer = rw e in
           rw q (each_same (own_at t (private_at t (first_of fewer))) (own_same (private_at t (first_of fewer))))
       go [] [] e f = absurd (true≢false (sym (rw (e, f) at there)))
-      go [] (Nothing ∷ ys) e f = absurd (true≢false (sym (rw (e, f) at known)))
-      go [] (At i ∷ ys) e f =
+      go [] (None ∷ ys) e f = absurd (true≢false (sym (rw (e, f) at known)))
+      go [] (Some i ∷ ys) e f =
           let m : first_of more ≡ j = rw e in
           let n : first_of fewer ≡ i = rw (e, f) in
           let h : is_one (numbers_of fewer) i ≡ true = rw (e, f, eq-eqb i i refl) in
@@ -189,7 +186,7 @@ module _ (t : List ℕ) (count : ℕ) (sound : SoundTable t count) (k j : ℕ) (
           (one_owner (private_at t i) (private_at t j) k (numbers_of fewer) there_fewer (sym private_same)))
 
   -- what is seen of the records comes to the same
-  abbrev seen_of : Bool → Sar → List ℕ → List ℕ → List Found → Survey
+  abbrev seen_of : Bool → Sar → List ℕ → List ℕ → List (Option ℕ) → Survey
   seen_of user_known_lem numbers server user hs =
       survey_of t (owner_by t (first_of hs) numbers.named user) server numbers.kind (every is_at hs && user_known_lem) (numbers_of hs)
 
@@ -220,7 +217,7 @@ module _ (t : List ℕ) (count : ℕ) (sound : SoundTable t count) (k j : ℕ) (
       rw (more_numbers, fewer_numbers) (after_choice t count _ _ change (λ i h. reaches_more t (numbers_of fs) (numbers_of gs) k j one there i))
 
 -- The plan of a removal that names someone.
-listed : (named : Bool) (ps : List ℕ) → (length ps ≡ 0 → ⊥) → (p : ℕ) × (meant_by true named ps ≡ Listed p)
+listed : (named : Bool) (ps : List ℕ) → (length ps ≡ 0 → ⊥) → (p : ℕ) × (meant_by true named ps ≡ Ok (Listed p))
 unfolding meant_by
 listed named [] n = absurd (n refl)
 listed named (p ∷ []) n = (p, refl)
@@ -234,13 +231,13 @@ assign_is t count s e n = rw (e, (listed s.numbers.named s.places n).1)
 find_append : (t : List ℕ) (count : ℕ) (xs ys : List (List ℕ)) → find_all t count (xs ++ ys) ≡ find_all t count xs ++ find_all t count ys
 unfolding find_all
 find_append t count [] ys = refl
-find_append t count (x ∷ xs) ys = ap (λ (l : List Found). find_public t count (data_of x) ∷ l) (find_append t count xs ys)
+find_append t count (x ∷ xs) ys = ap (λ (l : List (Option ℕ)). find_public t count (data_of x) ∷ l) (find_append t count xs ys)
 
 -- A removal of some identities, of which `other` is one, and the same with `more` among them.
 module _ (t : List ℕ) (count : ℕ) (sound : SoundTable t count) (k j : ℕ) (a : 1 ≤ k) (b : k ≤ count) (c : 1 ≤ j) (d : j ≤ count)
     (one : same_set (block_of t k) (block_of t j) ≡ true) (numbers : Sar) (removal : is_removal numbers.kind ≡ true) (server user : List ℕ)
     (before after front back : List (List ℕ)) (more other : List ℕ) (still : before ++ after ≡ front ++ (other ∷ back))
-    (at_more : find_public t count (data_of more) ≡ At j) (at_other : find_public t count (data_of other) ≡ At k)
+    (at_more : find_public t count (data_of more) ≡ Some j) (at_other : find_public t count (data_of other) ≡ Some k)
     (ps qs : List ℕ) (some : length ps ≡ 0 → ⊥) (still-some : length qs ≡ 0 → ⊥) where
   abbrev naming : Assignment
   naming = record { numbers = numbers; server = server; user = user; identities = before ++ (more ∷ after); places = ps }
@@ -248,13 +245,13 @@ module _ (t : List ℕ) (count : ℕ) (sound : SoundTable t count) (k j : ℕ) (
   abbrev leaving : Assignment
   leaving = record { numbers = numbers; server = server; user = user; identities = before ++ after; places = qs }
 
-  abbrev fs : List Found
+  abbrev fs : List (Option ℕ)
   fs = find_all t count before
 
-  abbrev gs : List Found
+  abbrev gs : List (Option ℕ)
   gs = find_all t count after
 
-  naming_found : find_all t count (before ++ (more ∷ after)) ≡ fs ++ (At j ∷ gs)
+  naming_found : find_all t count (before ++ (more ∷ after)) ≡ fs ++ (Some j ∷ gs)
   unfolding find_all
   naming_found = find_append t count before (more ∷ after) ∙ rw at_more
 
@@ -264,9 +261,9 @@ module _ (t : List ℕ) (count : ℕ) (sound : SoundTable t count) (k j : ℕ) (
   there : is_one (numbers_of fs ++ numbers_of gs) k ≡ true
   unfolding find_all numbers_of
   there =
-      let e : fs ++ gs ≡ find_all t count front ++ (At k ∷ find_all t count back) =
+      let e : fs ++ gs ≡ find_all t count front ++ (Some k ∷ find_all t count back) =
       sym leaving_found ∙ ap (find_all t count) still ∙ find_append t count front (other ∷ back) ∙ rw at_other in
-      rw (← numbers_append fs gs, e, numbers_append (find_all t count front) (At k ∷ find_all t count back))
+      rw (← numbers_append fs gs, e, numbers_append (find_all t count front) (Some k ∷ find_all t count back))
       (one_amid (numbers_of (find_all t count front)) (numbers_of (find_all t count back)) k)
 
   assigned_same : assign t count naming ≡ assign t count leaving
@@ -284,7 +281,7 @@ module _ (t : List ℕ) (count : ℕ) (sound : SoundTable t count) (k j : ℕ) (
       change : List ℕ → List ℕ
       change = settled w.state (stored_name w.named server)
 
-      go : (x : Bool) → after_of t count (reaches t (cond x (owned_up_to t user count) (numbers_of (fs ++ (At j ∷ gs))))) change
+      go : (x : Bool) → after_of t count (reaches t (cond x (owned_up_to t user count) (numbers_of (fs ++ (Some j ∷ gs))))) change
           ≡ after_of t count (reaches t (cond x (owned_up_to t user count) (numbers_of (fs ++ gs)))) change
       go true = refl
       go false = written_same t count sound k j a b c d one fs gs there change

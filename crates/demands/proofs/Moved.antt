@@ -2,7 +2,7 @@
 use Rattle.octets.specs.Standard.{ℕ, ◌+◌, ◌%◌, ◌≤◌, ◌<◌, add-zero, List, [], ◌∷◌, ◌++◌, append_assoc, some, Bool, true, false, cond, ◌≡◌, refl, sym}
 use Rattle.octets.specs.Standard.{ap, ◌∙◌, arith, length, drop, set, length-append, drop-drop, drop_at, ltb, lt-ltb, le-ltb}
 use Rattle.diameter.specs.Avp.{padded, sound}
-use Rattle.diameter.specs.Walk.{Walk, ended, avp, walk}
+use Rattle.diameter.specs.Walk.{Walk, ended, walk}
 use Rattle.diameter.specs.Put.{glue, Piece, bytes_of, avps_of, Whole, All}
 use Rattle.diameter.proofs.Walks.{sound_says, padded_least, walk_nil, walk_faulty}
 use Rattle.diameter.proofs.Pieces.{walk_pieces}

@@ -1,7 +1,7 @@
 -- "a removal naming two members of one set is like naming one": the call with one identity fewer.
+use Rattle.std.specs.Prelude.{Ok}
 use Rattle.octets.specs.Standard.{ℕ, ◌≤◌, List, [], ◌∷◌, ◌++◌, map, append-nil, Bool, true, false, none, ◌≡◌, refl, sym, ap, subst, ◌∙◌, arith}
 use Rattle.octets.specs.Standard.{length, get_or, length-append}
-use Rattle.blocks.specs.declared.Checked.TheVariants.{Sound}
 use Rattle.table.specs.SoundTable.{SoundTable}
 use Rattle.diameter.specs.Walk.{Walk, ended, avp, walk, some_avp}
 use Rattle.diameter.specs.Put.{glue, Piece, Whole, All, bytes_of, avps_of}
@@ -246,7 +246,7 @@ module _ (head : List ℕ) (twenty : length head ≡ 20) (before : List Piece) (
       same_decision : SameDecision (message head long) (message head short) (decide d (message head long) t count v) (decide d (message head short) t count v)
       same_decision = rw (← decided_same) (record { given = blameless_same _ _ _ blameless; table = refl; vectors = refl })
 
-    module _ (most : length (message head long) ≤ 16384) (x : Lent) (count : ℕ) (sound : check_of x ≡ Sound count)
+    module _ (most : length (message head long) ≤ 16384) (x : Lent) (count : ℕ) (sound : check_of x ≡ Ok count)
         (m : Member x.table count (before ++ after) one) (is : dialect_of x.terms head ≡ d) where
       fit_long : Fit long
       fit_long = record { most = omega (arith, most, message_length head twenty long); fours = row_even (before ++ (one ∷ after)) whole }
@@ -280,7 +280,7 @@ module _ (head : List ℕ) (twenty : length head ≡ 20) (before : List Piece) (
               ∙ sym (answer_is (asking x (message head short)) e)
 
 -- The same of any call and of the call with the request that names one fewer.
-pub twice_once : (x : Lent) (fewer : List ℕ) (count : ℕ) → check_of x ≡ Sound count → length x.request ≤ 16384 → Removes (dialect_in x) x.request
+pub twice_once : (x : Lent) (fewer : List ℕ) (count : ℕ) → check_of x ≡ Ok count → length x.request ≤ 16384 → Removes (dialect_in x) x.request
     → (f : OneFewer x.request fewer) → Member x.table count (f.before ++ f.after) f.one → serve_table x ≡ serve_table (asking x fewer)
 twice_once x fewer count sound most removes f m =
     ap (λ (req : List ℕ). serve_table (asking x req)) f.bytes

@@ -1,10 +1,9 @@
 -- Demand 1: an answer, or exactly one of seven refusals. What a refused call leaves, and what an answered one writes.
+use Rattle.std.specs.Prelude.{Result, Ok, Err}
 use Rattle.octets.specs.Standard.{ℕ, ◌≤◌, ◌<◌, List, Bool, true, false, cond, ◌||◌, true≢false, ◌≡◌, refl, sym, ap, ◌∙◌, ◌⊎◌, inl, inr, ◌≢◌, arith, length}
 use Rattle.octets.specs.Standard.{drop, drop_at}
 use Rattle.octets.specs.Run.{over}
 use Rattle.octets.proofs.Writes.{over_length}
-use Rattle.blocks.specs.declared.Checked.{Checked}
-use Rattle.blocks.specs.declared.Checked.TheVariants.{Sound, Bad}
 use Rattle.diameter.specs.Put.{All}
 use Rattle.calling.specs.Call.{Answer, Call, Answered, Refused}
 use Rattle.calling.specs.Lent.{Lent, asking, dialect_in}
@@ -24,9 +23,9 @@ use Rattle.refusals.proofs.Trials.{tried_by, tried_alike}
 use Rattle.demands.proofs.Trials.{exactly}
 
 -- an unsound file's first bad block
-bad_block : (c : Checked) → is_bad c ≡ true → c ≡ Bad (check_value c)
-bad_block (Sound count) e = absurd (true≢false (sym e))
-bad_block (Bad block) e = refl
+bad_block : (c : Result ℕ ℕ) → is_bad c ≡ true → c ≡ Err (check_value c)
+bad_block (Ok count) e = absurd (true≢false (sym e))
+bad_block (Err block) e = refl
 
 -- a refusal is no answer
 is_answer : Call → ℕ
@@ -90,12 +89,12 @@ module _ (x : Lent) where
   -- Refusal 5 returns the first bad block besides, every other refusal 0, an answer its length.
   record Besides (c : Call) : Type 0 where
     none : (n k : ℕ) → c ≡ Refused n k → n ≢ 5 → k ≡ 0
-    block : (k : ℕ) → c ≡ Refused 5 k → check_of x ≡ Bad k
+    block : (k : ℕ) → c ≡ Refused 5 k → check_of x ≡ Err k
     long : (a : Answer) → c ≡ Answered a → a.length ≡ length (answer_to x (check_value (check_of x)))
 
   record Right (r : Trial) : Type 0 where
     none : r.number ≢ 5 → r.besides ≡ 0
-    block : r.holds ≡ true → r.number ≡ 5 → check_of x ≡ Bad r.besides
+    block : r.holds ≡ true → r.number ≡ 5 → check_of x ≡ Err r.besides
 
   other : (h : Bool) (n : ℕ) → n ≢ 5 → Right (record { holds = h; number = n; besides = 0 })
   other h n l = record { none = λ i. refl; block = λ i e. absurd (l e) }
@@ -110,7 +109,7 @@ module _ (x : Lent) where
       (λ r q h.
       record {
         none = λ n k e l. sym (ap call_value e) ∙ q.none (λ i. l (sym (ap call_number e) ∙ i));
-        block = λ k e. q.block h (ap call_number e) ∙ ap Bad (ap call_value e);
+        block = λ k e. q.block h (ap call_number e) ∙ ap Err (ap call_value e);
         long = λ a e. absurd (omega (arith, ap is_answer e));
       })
       (record {
@@ -122,11 +121,11 @@ module _ (x : Lent) where
   pub besides_none : (n k : ℕ) → (serve_table x).call ≡ Refused n k → n ≢ 5 → k ≡ 0
   besides_none = besides.none
 
-  pub besides_block : (k : ℕ) → (serve_table x).call ≡ Refused 5 k → check_of x ≡ Bad k
+  pub besides_block : (k : ℕ) → (serve_table x).call ≡ Refused 5 k → check_of x ≡ Err k
   besides_block = besides.block
 
-  pub answer_long : (a : Answer) → (serve_table x).call ≡ Answered a → (count : ℕ) → check_of x ≡ Sound count → a.length ≡ length (answer_to x count)
-  answer_long a e count s = besides.long a e ∙ ap (λ (c : Checked). length (answer_to x (check_value c))) s
+  pub answer_long : (a : Answer) → (serve_table x).call ≡ Answered a → (count : ℕ) → check_of x ≡ Ok count → a.length ≡ length (answer_to x count)
+  answer_long a e count s = besides.long a e ∙ ap (λ (c : Result ℕ ℕ). length (answer_to x (check_value c))) s
 
   -- What is refused leaves the table, the vectors and the buffer; what is not is answered.
   pub refused_kept : turned_away x ≡ true → ((serve_table x).table ≡ x.table) × ((serve_table x).vectors ≡ x.vectors) × ((serve_table x).buffer ≡ x.buffer)
@@ -147,8 +146,8 @@ module _ (x : Lent) where
   pub answer_is : turned_away x ≡ false → serve_table x ≡ answer
   answer_is = any_call (λ b s. b ≡ false → s ≡ answer) (λ r e. absurd (true≢false e)) (λ e. refl)
 
-  pub answered_is : (count : ℕ) → check_of x ≡ Sound count → turned_away x ≡ false → serve_table x ≡ answered x (decision x count)
-  answered_is count s e = answer_is e ∙ ap (λ (c : Checked). answered x (decision x (check_value c))) s
+  pub answered_is : (count : ℕ) → check_of x ≡ Ok count → turned_away x ≡ false → serve_table x ≡ answered x (decision x count)
+  answered_is count s e = answer_is e ∙ ap (λ (c : Result ℕ ℕ). answered x (decision x (check_value c))) s
 
   -- The word of a call is read back: what it carries is short.
   module _ (fits : Fits x) where
@@ -200,7 +199,7 @@ refused_alike x req other a b c e =
     rw (a, b, c) (tried_alike (refused (asking x other)) (answer (asking x req)) (answer (asking x other)) (trials (asking x other)) e)
 
 -- what the first five let pass is refused by 5, over a table whose check answers a bad block
-pub unsound_refused : (x : Lent) (k : ℕ) → any_holds (early_trials x.terms x.request x.buffer) ≡ false → check_of x ≡ Bad k
+pub unsound_refused : (x : Lent) (k : ℕ) → any_holds (early_trials x.terms x.request x.buffer) ≡ false → check_of x ≡ Err k
     → (serve_table x).call ≡ Refused 5 k
 unfolding serve_table_by serve_found any_holds tried refused
 unsound_refused x k none e =

@@ -1,4 +1,5 @@
 -- Which results can be: reading blames one of ten, and no other; and what the choices of a UAR and a LIR never come to.
+use Rattle.std.specs.Prelude.{Option, Some, None}
 use Rattle.octets.specs.Standard.{ℕ, ◌+◌, ◌/◌, ◌%◌, List, [], ◌∷◌, none, Bool, true, false, cond, not, ◌&&◌, true≢false, ◌≡◌, refl, sym, ap, ◌∙◌, ◌⊎◌}
 use Rattle.octets.specs.Standard.{inl, inr, ◌≢◌, arith, length, get_or, eqb, leb, eqb-false}
 use Rattle.blocks.specs.Changed.{is_one}
@@ -24,8 +25,6 @@ use Rattle.requests.specs.Features.{beyond_set}
 use Rattle.requests.specs.Judged.{Judged, bad, fine, nothing, on_rule, judge}
 use Rattle.requests.specs.Request.{spoken, header_fault, first_other, missing, complete, read_walk, read_in}
 use Rattle.lookup.specs.Find.{find_server}
-use Rattle.lookup.specs.declared.Found.{Found}
-use Rattle.lookup.specs.declared.Found.TheVariants.{At, Nothing}
 use Rattle.choices.specs.Choices.{authorization, location}
 use Rattle.choices.specs.declared.choice.Asked.{Asked}
 use Rattle.choices.specs.declared.choice.Choice.{Choice}
@@ -178,9 +177,9 @@ carried_without n t count user k (Server r) h = h
 carried_without n t count user k (Capabilities r) h = h
 carried_without n t count user k (First r other) h = go (find_server t count user)
   where
-    go : (f : Found) → is_base n (served_by f r other k).verdict.result ≡ false
-    go (At j) = h.0
-    go Nothing = h.1
+    go : (f : Option ℕ) → is_base n (served_by f r other k).verdict.result ≡ false
+    go (Some j) = h.0
+    go None = h.1
 
 -- 02 [7]: the B5012 of UAR and LIR is no longer there.
 pub authorization_without : (a : Asked) (kind : ℕ) → Without 5012 (authorization a kind)

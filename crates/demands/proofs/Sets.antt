@@ -1,11 +1,11 @@
 -- 02 [6], "Registering one registers the set, and the barring rule was wrong.", sentence by sentence: the statements alone, each by the law that has its
 -- proof. What the words below mean is in specs/Sets; what the rules were before is in older_rules/specs/WithoutSets. A call is over an area, `a`, and goes by
 -- the table at its front (`promised` in proofs/Demands): `table_in a.table`, or all that is lent with it alone, `table_only a`.
+use Rattle.std.specs.Prelude.{Ok, Err}
 use Rattle.octets.specs.Standard.{ℕ, ◌<◌, ◌≤◌, true, false, true≢false, ◌≡◌, sym, ap, ◌∙◌, ◌⊎◌, ◌≢◌, ◌↔◌, List, ◌++◌, length, get_or}
 use Rattle.record.specs.Fields.{edition_of, bits_of, barred}
 use Rattle.record.specs.Sets.{same_set}
 use Rattle.blocks.specs.Blocks.{block_of}
-use Rattle.blocks.specs.declared.Checked.TheVariants.{Sound, Bad}
 use Rattle.table.specs.Named.{private_at}
 use Rattle.table.specs.Area.{table_in, check_area}
 use Rattle.table.specs.Check.{check_table}
@@ -44,7 +44,7 @@ use Rattle.demands.proofs.Unable as unable
 -- A result here (`result_of`) is that of the decision which `serve` answers with where it does not refuse: proofs/Demands, `demand_2`.
 -- "Document 01 rejects every barred identity in a UAR. The trade's rule is softer: one with a non-barred identity in its implicit set may go on.": it is not
 -- rejected, and where the User-Name is its record's, the answer carries what it does for an identity that is known (`true`) and not barred (`false`)
-module _ (a : Lent) (count : ℕ) (sound : check_of (table_only a) ≡ Sound count) (uar : command_of a.request ≡ 300) (seen : Seen)
+module _ (a : Lent) (count : ℕ) (sound : check_of (table_only a) ≡ Ok count) (uar : command_of a.request ≡ 300) (seen : Seen)
     (read : Decides (dialect_in a) a.request seen) (k j : ℕ) (stands : Stands (table_in a.table) count k (data_seen seen public_identity))
     (from : 1 ≤ j) (to : j ≤ count) (shares : Shares (table_in a.table) k j) (free : barred (bits_of (block_of (table_in a.table) j)) ≡ false) where
   pub going_on_lem : result_of (table_only a) ≢ Base 5003
@@ -65,18 +65,18 @@ pub set_is : (t : List ℕ) (k j : ℕ) → (same_set (block_of t k) (block_of t
 set_is t k j = (barring.shares_says t k j, barring.shares_holds t k j)
 
 -- "from now on a table is sound only if all records of a set agree in state, pending and server name,"
-pub sound_agree : (t : List ℕ) (file count j k : ℕ) → check_table t file ≡ Sound count → 1 ≤ j → j < k → k ≤ count → Shares t j k → Agrees t j k
+pub sound_agree : (t : List ℕ) (file count j k : ℕ) → check_table t file ≡ Ok count → 1 ≤ j → j < k → k ≤ count → Shares t j k → Agrees t j k
 sound_agree t file count j k = disagreeing.sound_agree t j k file count
 
 -- "the later block being blamed." So says the entry that checks a table, and so does refusal 5 of a call.
-pub later_blamed : (t : List ℕ) (file j k : ℕ) → Disagrees t file j k → check_table t file ≡ Bad k
+pub later_blamed : (t : List ℕ) (file j k : ℕ) → Disagrees t file j k → check_table t file ≡ Err k
 later_blamed t file j k = disagreeing.disagree_blamed t j k file
 
 pub later_blamed_check : (area profile : List ℕ) (j k : ℕ) {r : ℕ} → Disagrees (table_in area) (length profile) j k → CheckPromise area profile r
-    → ReadsCheck 5 (Bad k) r
+    → ReadsCheck 5 (Err k) r
 unfolding check_area
 later_blamed_check area profile j k d p =
-    let q : check_area area (length profile) ≡ Bad k = later_blamed (table_in area) (length profile) j k d in rw q at (checked area profile p)
+    let q : check_area area (length profile) ≡ Err k = later_blamed (table_in area) (length profile) j k d in rw q at (checked area profile p)
 
 pub later_blamed_call : (a : Lent) (j k : ℕ) → any_holds (early_trials a.terms a.request a.buffer) ≡ false
     → Disagrees (table_in a.table) (length a.profile) j k → (serve a).call ≡ Refused 5 k
@@ -84,7 +84,7 @@ later_blamed_call a j k none d = unsound_refused (table_only a) k none (later_bl
 
 -- "Every effect of a SAR or an authentication request reaches the whole set,": of two records of one set both have other bytes after a call, or neither; and
 -- they agree after it.
-module _ (a : Lent) (count : ℕ) (sound : check_of (table_only a) ≡ Sound count) (j k : ℕ) (shares : Shares (table_in a.table) j k) where
+module _ (a : Lent) (count : ℕ) (sound : check_of (table_only a) ≡ Ok count) (j k : ℕ) (shares : Shares (table_in a.table) j k) where
   pub members_together : ((i : ℕ) → get_or (table_in a.table) i 0 < 256) → 1 ≤ j → j ≤ count → 1 ≤ k → k ≤ count
       → differ (block_of (table_in a.table) j) (block_of (table_in (serve a).table) j)
       ≡ differ (block_of (table_in a.table) k) (block_of (table_in (serve a).table) k)
@@ -101,7 +101,7 @@ module _ (a : Lent) (count : ℕ) (sound : check_of (table_only a) ≡ Sound cou
 
 -- "and a removal naming two members of one set is like naming one.": without one of two it comes to the same call, and leaves the same area, vectors and
 -- buffer.
-pub like_naming_one : (a : Lent) (fewer : List ℕ) (count : ℕ) → check_of (table_only a) ≡ Sound count → length a.request ≤ 16384
+pub like_naming_one : (a : Lent) (fewer : List ℕ) (count : ℕ) → check_of (table_only a) ≡ Ok count → length a.request ≤ 16384
     → Removes (dialect_in a) a.request → (f : OneFewer a.request fewer) → Member (table_in a.table) count (f.before ++ f.after) f.one
     → serve a ≡ serve (asking a fewer)
 like_naming_one a fewer count sound most removes f m = ap (over_area a.table) (named.twice_once (table_only a) fewer count sound most removes f m)
@@ -109,7 +109,7 @@ like_naming_one a fewer count sound most removes f m = ap (over_area a.table) (n
 -- "Demand 2 stands.": proofs/Demands has it as it was.
 
 -- "Refusals: B5003 now exactly when the identity is barred and no non-barred one shares its nonzero set;"
-module _ (a : Lent) (count : ℕ) (sound : check_of (table_only a) ≡ Sound count) (uar : command_of a.request ≡ 300) where
+module _ (a : Lent) (count : ℕ) (sound : check_of (table_only a) ≡ Ok count) (uar : command_of a.request ≡ 300) where
   pub barred_only : result_of (table_only a) ≡ Base 5003 → Barred (table_only a) count
   barred_only = barring.barred_only (table_only a) count sound uar
 
@@ -139,5 +139,5 @@ barred_uar a = unable.barred_whose (dialect_in a) a.request (table_in a.table) (
 pub without_sets : (a : Lent) → NoSets (table_in a.table) → serve_by before_sets a ≡ serve a
 without_sets a none = ap (over_area a.table) (older.without_sets (table_only a) none)
 
-pub first_edition : (t : List ℕ) (file count : ℕ) → check_table t file ≡ Sound count → edition_of (block_of t 0) ≡ 1 → NoSets t
+pub first_edition : (t : List ℕ) (file count : ℕ) → check_table t file ≡ Ok count → edition_of (block_of t 0) ≡ 1 → NoSets t
 first_edition = older.first_edition

@@ -1,7 +1,7 @@
 -- 02 [8], "Taking over a new table, radio or no radio.", over the calls: what a request gets before, between and after. What is written, and how the area then
 -- checks, is in taking/proofs/Taking. A request that refusals 12 and 1 to 4 do not let pass is refused by them as ever.
+use Rattle.std.specs.Prelude.{Ok, Err}
 use Rattle.octets.specs.Standard.{ℕ, ◌<◌, ◌≤◌, Bool, false, ◌≡◌, sym, ap, ◌∙◌, subst, List, arith, length}
-use Rattle.blocks.specs.declared.Checked.TheVariants.{Bad}
 use Rattle.table.specs.Area.{size_in, table_in, check_area}
 use Rattle.table.proofs.Areas.{in_all, sound_size_in}
 use Rattle.calling.specs.Lent.{Lent, holding, table_only}
@@ -12,12 +12,11 @@ use Rattle.calling.proofs.Areas.{bad_refused, served_in}
 use Rattle.taking.specs.TakeOver.{take_over}
 use Rattle.taking.specs.Torn.{AllChosen, FirstMissing, NoneWithin, FirstWithin, lower_block}
 use Rattle.taking.specs.Written.{cut_after, torn_after}
-use Rattle.taking.specs.declared.Taken.TheVariants.{Took}
 use Rattle.demands.specs.TakingOver.{refusing, SameServed}
 use Rattle.taking.proofs.Taking as taking
 
 -- "or is refused": a request over an area whose check answers a bad block
-pub refused_so : (x : Lent) (k : ℕ) → any_holds (early_trials x.terms x.request x.buffer) ≡ false → check_area x.table (length x.profile) ≡ Bad k
+pub refused_so : (x : Lent) (k : ℕ) → any_holds (early_trials x.terms x.request x.buffer) ≡ false → check_area x.table (length x.profile) ≡ Err k
     → serve x ≡ refusing x k
 refused_so = bad_refused
 
@@ -35,7 +34,7 @@ same_served x area other e =
     }
 
 -- where a new table is taken over the area that is lent, beside the profile file that is lent; of the old area nothing is supposed
-module _ (x : Lent) (fresh : List ℕ) (count : ℕ) (e : (take_over x.table fresh (length x.profile)).taken ≡ Took count) where
+module _ (x : Lent) (fresh : List ℕ) (count : ℕ) (e : (take_over x.table fresh (length x.profile)).taken ≡ Ok count) where
   -- AFTER SUCCESS every request gets what it gets over the new table alone.
   pub after : SameServed (holding x (take_over x.table fresh (length x.profile)).area) (holding x fresh)
   after =

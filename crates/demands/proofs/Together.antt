@@ -1,10 +1,10 @@
 -- Sets, over whole calls: the members of a set are altered together or not at all.
+use Rattle.std.specs.Prelude.{Ok}
 use Rattle.octets.specs.Standard.{ℕ, ◌≤◌, List, [], ◌∷◌, true, ◌≡◌, refl, sym, ap, ◌∙◌, length}
 use Rattle.octets.proofs.Numbers.{Bytes}
 use Rattle.record.specs.Sets.{same_set}
 use Rattle.blocks.specs.Blocks.{block_of}
 use Rattle.table.specs.SoundTable.{SoundTable}
-use Rattle.blocks.specs.declared.Checked.TheVariants.{Sound}
 use Rattle.rewrite.specs.Change.{differ}
 use Rattle.rewrite.specs.Fitting.{change_of}
 use Rattle.rewrite.specs.declared.Change.TheVariants.{Settled, Challenged}
@@ -59,7 +59,7 @@ module _ (t : List ℕ) (count : ℕ) (sound : SoundTable t count) (bytes : Byte
           either (λ (d : Decision). Together d.table) (beyond_set dialect.terms req) left_together
           (deed_together req seen (plan_read dialect req t count v seen).deed (plan_fits dialect req t count v seen e))
 
-pub members_together : (x : Lent) (count : ℕ) → check_of x ≡ Sound count → Bytes x.table → (j k : ℕ) → 1 ≤ j → j ≤ count → 1 ≤ k → k ≤ count
+pub members_together : (x : Lent) (count : ℕ) → check_of x ≡ Ok count → Bytes x.table → (j k : ℕ) → 1 ≤ j → j ≤ count → 1 ≤ k → k ≤ count
     → same_set (block_of x.table j) (block_of x.table k) ≡ true
     → differ (block_of x.table j) (block_of (serve_table x).table j) ≡ differ (block_of x.table k) (block_of (serve_table x).table k)
 unfolding refused answered_by

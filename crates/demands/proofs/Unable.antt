@@ -1,9 +1,9 @@
 -- B5012: no UAR and no LIR comes to it, under the rules in force or, over a sound table, under those that had the branch; so it is a SAR's or a MAR's. B5003 is
 -- a UAR's.
+use Rattle.std.specs.Prelude.{Ok}
 use Rattle.octets.specs.Standard.{ℕ, List, Bool, true, false, cond, true≢false, ◌≡◌, refl, sym, ap, ◌∙◌, ◌⊎◌, inl, inr, ◌≢◌, arith, eqb, eqb-true}
 use Rattle.octets.specs.Standard.{eqb-false}
 use Rattle.blocks.specs.Changed.{is_one}
-use Rattle.blocks.specs.declared.Checked.TheVariants.{Sound}
 use Rattle.diameter.specs.Message.{command_of}
 use Rattle.reading.specs.Rules.{Seen}
 use Rattle.reading.specs.declared.Outcome.TheVariants.{Base}
@@ -100,7 +100,7 @@ module _ (d : Dialect) (req t : List ℕ) (count : ℕ) (v : List ℕ) where
           by false false false a e = free (mar_plan t count v seen) (mar_free t count v seen) e
 
 -- with the branch, over a sound table
-pub branch_never : (x : Lent) (count : ℕ) → check_of x ≡ Sound count → (command_of x.request ≡ 300) ⊎ (command_of x.request ≡ 302)
+pub branch_never : (x : Lent) (count : ℕ) → check_of x ≡ Ok count → (command_of x.request ≡ 300) ⊎ (command_of x.request ≡ 302)
     → (decision_by with_branch x count).given.verdict.result ≢ Base 5012
 branch_never x count sound c e =
     unable_never (dialect_in x) x.request x.table count x.vectors c

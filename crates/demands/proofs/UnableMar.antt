@@ -1,12 +1,12 @@
 -- "and the authentication request's": a MAR's B5012 is given exactly where no vector can be sent to the two identities of a record, in the scheme that is
 -- served; after X5001, X5002 and X5006; and a MAR never comes to B5003.
+use Rattle.std.specs.Prelude.{Ok, Option, Some, None, Err}
 use Rattle.octets.specs.Standard.{ℕ, zero, suc, ◌+◌, ◌/◌, ◌<◌, ◌≤◌, min, List, Bool, true, false, cond, not, ◌&&◌, true≢false, ◌≡◌, refl, sym, ap, ◌∙◌}
 use Rattle.octets.specs.Standard.{◌⊎◌, inl, inr, ◌≢◌, arith, length, eqb, ltb, eqb-true, eqb-false, eq-eqb, ltb-false, le-ltb}
 use Rattle.octets.specs.Name.{same}
 use Rattle.octets.proofs.Names.{same_eq, same_yes, same_no}
 use Rattle.blocks.specs.Blocks.{block_of}
 use Rattle.blocks.specs.Changed.{is_one}
-use Rattle.blocks.specs.declared.Checked.TheVariants.{Sound}
 use Rattle.table.specs.Named.{private_at}
 use Rattle.vectors.specs.Chosen.{unused_here, unused_at, unused_of, packed}
 use Rattle.vectors.specs.Scheme.{scheme}
@@ -15,8 +15,6 @@ use Rattle.vectors.specs.VectorBlock.{vector_of, card_of}
 use Rattle.vectors.specs.declared.choice.Sent.{Sent}
 use Rattle.vectors.proofs.Unused.{ones_many}
 use Rattle.lookup.specs.Find.{is_at, block_found, find_public, find_private}
-use Rattle.lookup.specs.declared.Found.{Found}
-use Rattle.lookup.specs.declared.Found.TheVariants.{At, Nothing}
 use Rattle.lookup.proofs.Halves.{Only, found_only, no_found}
 use Rattle.diameter.specs.Message.{command_of}
 use Rattle.reading.specs.Kinds.{user_name, public_identity, number_auth_items}
@@ -25,9 +23,8 @@ use Rattle.reading.specs.declared.Outcome.{Outcome}
 use Rattle.reading.specs.declared.Outcome.TheVariants.{Base, Experimental}
 use Rattle.requests.specs.Request.{data_seen, value_seen, scheme_of}
 use Rattle.choices.specs.Challenges.{claim_of, challenge_of}
+use Rattle.choices.specs.Plans.{Finding}
 use Rattle.choices.specs.declared.challenge.Claimed.{Claimed}
-use Rattle.choices.specs.declared.plan.Finding.{Finding}
-use Rattle.choices.specs.declared.plan.Finding.TheVariants.{Denied, Fine}
 use Rattle.questions.specs.Authentication.{claimed_at, claimed_of, to_send, authenticate_found, authenticate}
 use Rattle.deciding.specs.Plans.{mar_plan, plan_read}
 use Rattle.deciding.specs.Decide.{performed_by, judged_by, decide_by}
@@ -53,8 +50,8 @@ module _ (a : Claimed) (k : ℕ) (sent : Sent) where
   claim_unable = go a.known a.together a.served a.some
     where
       go : (known together served some : Bool)
-          → comes (cond (not known) (Denied (Experimental 5001)) (cond (not together) (Denied (Experimental 5002))
-          (cond (not served) (Denied (Experimental 5006)) (cond (not some) (Denied (Base 5012)) Fine))))
+          → comes (cond (not known) (Err (Experimental 5001)) (cond (not together) (Err (Experimental 5002))
+          (cond (not served) (Err (Experimental 5006)) (cond (not some) (Err (Base 5012)) (Ok tt)))))
           ≡ Base 5012
           → (known ≡ true) × (together ≡ true) × (served ≡ true) × (some ≡ false)
       go false together served some e = unable (Experimental 5001) refl e
@@ -144,7 +141,7 @@ module _ (v name : List ℕ) where
           omega (arith, sent_many number, ltb-false 0 (to_send v name number).count e, eqb-false number 0 f) in
           inr (says_used (λ j l. none_counted (unused_at v name) (length v / 512) 0 c j (omega arith) (omega arith)))
 
-module _ (x : Lent) (count : ℕ) (sound : check_of x ≡ Sound count) (mar : command_of x.request ≡ 303) where
+module _ (x : Lent) (count : ℕ) (sound : check_of x ≡ Ok count) (mar : command_of x.request ≡ 303) where
   abbrev t : List ℕ
   t = x.table
 
@@ -158,24 +155,24 @@ module _ (x : Lent) (count : ℕ) (sound : check_of x ≡ Sound count) (mar : co
     abbrev sending : Sent
     sending = to_send x.vectors user (value_seen seen number_auth_items)
 
-    abbrev claimed : Found → Claimed
+    abbrev claimed : Option ℕ → Claimed
     claimed f = claimed_of t count user (scheme_of seen) (ltb 0 sending.count) f
 
-    abbrev result_at : Found → Outcome
+    abbrev result_at : Option ℕ → Outcome
     result_at f = (challenge_of (claim_of (claimed f)) (block_found f) sending).given.verdict.result
 
     decided_is : (decision x count).given.verdict.result ≡ result_at (find_public t count public)
     unfolding decide_by judged_by performed_by plan_read mar_plan authenticate authenticate_found
     decided_is = rw (read.read, read.inside, mar)
 
-    found_result : (f : Found) → find_public t count public ≡ f → result_of x ≡ result_at f
+    found_result : (f : Option ℕ) → find_public t count public ≡ f → result_of x ≡ result_at f
     found_result f e = result_counted x count sound ∙ decided_is ∙ ap result_at e
 
-    found_none : (f : Found) → find_public t count public ≡ f → result_at f ≡ Base 5012 → NoneToSend x count
+    found_none : (f : Option ℕ) → find_public t count public ≡ f → result_at f ≡ Base 5012 → NoneToSend x count
     unfolding claimed_of claimed_at private_at
-    found_none Nothing e r = absurd (true≢false (sym (claim_unable (claimed Nothing) 0 sending r).0))
-    found_none (At k) e r =
-        let c = claim_unable (claimed (At k)) k sending r in
+    found_none None e r = absurd (true≢false (sym (claim_unable (claimed None) 0 sending r).0))
+    found_none (Some k) e r =
+        let c = claim_unable (claimed (Some k)) k sending r in
         let o : Only t count public k = found_only t count public (lent_sound x count sound) k e in
         record {
           seen = seen;
@@ -190,19 +187,19 @@ module _ (x : Lent) (count : ℕ) (sound : check_of x ≡ Sound count) (mar : co
     unknown : ((k : ℕ) → Stands t count k public → ⊥) ⊎ ((k : ℕ) → Belongs t count k user → ⊥) → result_of x ≡ Experimental 5001
     unfolding claimed_of claimed_at
     unknown (inl none) =
-        let e : find_public t count public ≡ Nothing = no_found t count public (λ j a b q. none j (record { from = a; to = b; name = q })) in
-        found_result Nothing e ∙ unknown_claim (claimed Nothing) 0 sending refl
+        let e : find_public t count public ≡ None = no_found t count public (λ j a b q. none j (record { from = a; to = b; name = q })) in
+        found_result None e ∙ unknown_claim (claimed None) 0 sending refl
     unknown (inr none) = go (find_public t count public) refl
       where
-        go : (f : Found) → find_public t count public ≡ f → result_of x ≡ Experimental 5001
-        go Nothing e = found_result Nothing e ∙ unknown_claim (claimed Nothing) 0 sending refl
-        go (At k) e = found_result (At k) e ∙ unknown_claim (claimed (At k)) k sending (none_known t count user none)
+        go : (f : Option ℕ) → find_public t count public ≡ f → result_of x ≡ Experimental 5001
+        go None e = found_result None e ∙ unknown_claim (claimed None) 0 sending refl
+        go (Some k) e = found_result (Some k) e ∙ unknown_claim (claimed (Some k)) k sending (none_known t count user none)
 
     apart : (k j : ℕ) → Stands t count k public → Belongs t count j user → private_at t k ≢ user → result_of x ≡ Experimental 5002
     unfolding claimed_of claimed_at private_at
     apart k j s b n =
-        found_result (At k) (stands_found t count (lent_sound x count sound) k public s)
-        ∙ apart_claim (claimed (At k)) k sending (belongs_known t count j user b) (same_no _ _ n)
+        found_result (Some k) (stands_found t count (lent_sound x count sound) k public s)
+        ∙ apart_claim (claimed (Some k)) k sending (belongs_known t count j user b) (same_no _ _ n)
 
     -- the two identities stand together in block k
     module _ (k : ℕ) (s : Stands t count k public) (p : private_at t k ≡ user) where
@@ -212,14 +209,14 @@ module _ (x : Lent) (count : ℕ) (sound : check_of x ≡ Sound count) (mar : co
       unserved : scheme_of seen ≢ scheme → result_of x ≡ Experimental 5006
       unfolding claimed_of claimed_at private_at
       unserved n =
-          found_result (At k) (stands_found t count (lent_sound x count sound) k public s)
-          ∙ unserved_claim (claimed (At k)) k sending user_known_lem (same_yes _ _ p) (same_no _ _ n)
+          found_result (Some k) (stands_found t count (lent_sound x count sound) k public s)
+          ∙ unserved_claim (claimed (Some k)) k sending user_known_lem (same_yes _ _ p) (same_no _ _ n)
 
       none_given : scheme_of seen ≡ scheme → (value_seen seen number_auth_items ≡ 0) ⊎ AllUsed x.vectors user → result_of x ≡ Base 5012
       unfolding claimed_of claimed_at private_at
       none_given q n =
-          found_result (At k) (stands_found t count (lent_sound x count sound) k public s)
-          ∙ unable_claim (claimed (At k)) k sending user_known_lem (same_yes _ _ p) (same_yes _ _ q)
+          found_result (Some k) (stands_found t count (lent_sound x count sound) k public s)
+          ∙ unable_claim (claimed (Some k)) k sending user_known_lem (same_yes _ _ p) (same_yes _ _ q)
           (none_sent_lem x.vectors user (value_seen seen number_auth_items) n)
 
   pub challenge_only : result_of x ≡ Base 5012 → NoneToSend x count

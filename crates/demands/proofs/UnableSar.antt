@@ -1,15 +1,13 @@
 -- "The SAR's B5012 for type 0 stays": it is given exactly where a SAR of type 0 means a record that stores another name than the request's; and a SAR never
 -- comes to B5003.
+use Rattle.std.specs.Prelude.{Ok, Option, Some, None, Err}
 use Rattle.octets.specs.Standard.{ℕ, List, [], ◌∷◌, map, Bool, true, false, cond, not, ◌&&◌, true≢false, ◌≡◌, refl, sym, ap, ◌∙◌, ◌⊎◌, inl, inr, ◌≢◌}
 use Rattle.octets.specs.Standard.{arith, length}
 use Rattle.octets.proofs.All.{and_left}
 use Rattle.octets.proofs.Names.{same_eq, same_refl, same_yes, same_no}
 use Rattle.blocks.specs.Changed.{is_one}
-use Rattle.blocks.specs.declared.Checked.TheVariants.{Sound}
 use Rattle.table.specs.Named.{private_at}
 use Rattle.lookup.specs.Find.{is_at, find_public, find_private}
-use Rattle.lookup.specs.declared.Found.{Found}
-use Rattle.lookup.specs.declared.Found.TheVariants.{At, Nothing}
 use Rattle.lookup.proofs.Halves.{Only, found_only, no_found}
 use Rattle.diameter.specs.Avp.{data_of}
 use Rattle.diameter.specs.AvpAt.{avp_at}
@@ -21,7 +19,7 @@ use Rattle.reading.specs.declared.Outcome.TheVariants.{Base, Experimental}
 use Rattle.requests.specs.Identity.{places_from}
 use Rattle.requests.specs.Request.{given, data_seen, value_seen, identities}
 use Rattle.requests.proofs.Naming.{identities_at}
-use Rattle.choices.specs.Plans.{finding_of, grant, plan_of}
+use Rattle.choices.specs.Plans.{Finding, finding_of, grant, plan_of}
 use Rattle.choices.specs.Types.{type_of, is_removal, asks_only, carries_user, effect_of}
 use Rattle.choices.specs.declared.Given.{Given}
 use Rattle.choices.specs.declared.types.AssignmentType.{AssignmentType}
@@ -30,8 +28,6 @@ use Rattle.choices.specs.declared.types.AssignmentType.TheVariants.{StoringRemov
 use Rattle.choices.specs.declared.types.Effect.{Effect}
 use Rattle.choices.specs.declared.plan.Sar.{Sar}
 use Rattle.choices.specs.declared.plan.Survey.{Survey}
-use Rattle.choices.specs.declared.plan.Finding.{Finding}
-use Rattle.choices.specs.declared.plan.Finding.TheVariants.{Denied, Fine}
 use Rattle.choices.specs.declared.plan.Plan.{Plan}
 use Rattle.assignment.specs.Assignment.{Assignment, meant_by, every, find_all, numbers_of, first_of, found, own_at, stores_at, survey_of, user_known, owner_by}
 use Rattle.assignment.specs.Assignment.{named_survey, owned_survey, assign_meant, assign}
@@ -71,7 +67,7 @@ module _ (v : Survey) (s : Sar) (first : ℕ) (owned : Bool) (kind : AssignmentT
   abbrev comes : Finding → Outcome
   comes f = (plan_of f s first owned).given.verdict.result
 
-  fine_neither : Neither (comes Fine)
+  fine_neither : Neither (comes (Ok tt))
   unfolding plan_of
   fine_neither = grant_neither s first _ (effect_neither s.kind s.keep)
 
@@ -83,18 +79,18 @@ module _ (v : Survey) (s : Sar) (first : ℕ) (owned : Bool) (kind : AssignmentT
   finding_asked = go v.known v.own (asks_only kind) v.stores v.fits (v.some && v.right)
     where
       go : (known own asks stores fits right : Bool)
-          → comes (cond (not known) (Denied (Experimental 5001)) (cond (not own) (Denied (Experimental 5002))
-          (cond asks (cond stores Fine (Denied (Base 5012)))
-          (cond (not fits) (Denied (Experimental 5005)) (cond (not right) (Denied (Experimental 5007)) Fine)))))
+          → comes (cond (not known) (Err (Experimental 5001)) (cond (not own) (Err (Experimental 5002))
+          (cond asks (cond stores (Ok tt) (Err (Base 5012)))
+          (cond (not fits) (Err (Experimental 5005)) (cond (not right) (Err (Experimental 5007)) (Ok tt))))))
           ≡ Base 5012
           → (asks ≡ true) × (known ≡ true) × (own ≡ true) × (stores ≡ false)
       go false own asks stores fits right e = unable (Experimental 5001) refl e
       go true false asks stores fits right e = unable (Experimental 5002) refl e
-      go true true true true fits right e = unable (comes Fine) fine_neither.0 e
+      go true true true true fits right e = unable (comes (Ok tt)) fine_neither.0 e
       go true true true false fits right e = (refl, refl, refl, refl)
       go true true false stores false right e = unable (Experimental 5005) refl e
       go true true false stores true false e = unable (Experimental 5007) refl e
-      go true true false stores true true e = unable (comes Fine) fine_neither.0 e
+      go true true false stores true true e = unable (comes (Ok tt)) fine_neither.0 e
 
   asked_finding : Asked → comes (finding_of v kind) ≡ Base 5012
   unfolding finding_of plan_of
@@ -206,7 +202,7 @@ one_place req a e = go (places_from 20 (body_of req)) refl (identities_at req 20
     go (p ∷ []) q f = (p, q)
     go (p ∷ (p2 ∷ ps)) q f = absurd (omega (arith, ap length f))
 
-module _ (x : Lent) (count : ℕ) (sound : check_of x ≡ Sound count) (sar : command_of x.request ≡ 301) where
+module _ (x : Lent) (count : ℕ) (sound : check_of x ≡ Ok count) (sar : command_of x.request ≡ 301) where
   abbrev t : List ℕ
   t = x.table
 
@@ -227,7 +223,7 @@ module _ (x : Lent) (count : ℕ) (sound : check_of x ≡ Sound count) (sar : co
       unfolding assignment_of
       one_result_lem = let p = one_place x.request a named in result_is ∙ one_plan t count says p.0 p.1
 
-      known_none : find_public t count (data_of a) ≡ Nothing → (named_survey t count says).known ≡ false
+      known_none : find_public t count (data_of a) ≡ None → (named_survey t count says).known ≡ false
       unfolding named_survey survey_of find_all every assignment_of
       known_none e = rw (named, e)
 
@@ -237,7 +233,7 @@ module _ (x : Lent) (count : ℕ) (sound : check_of x ≡ Sound count) (sar : co
           one_result_lem ∙ unknown_finding (named_survey t count says) says.numbers (first_of (found t count says)) false says.numbers.kind e
 
     -- what is seen of the one record
-    module _ (a : List ℕ) (named : identities (body_of x.request) ≡ a ∷ []) (k : ℕ) (at : find_public t count (data_of a) ≡ At k) where
+    module _ (a : List ℕ) (named : identities (body_of x.request) ≡ a ∷ []) (k : ℕ) (at : find_public t count (data_of a) ≡ Some k) where
       known_is : (named_survey t count says).known ≡ user_known t count (given seen user_name) user
       unfolding named_survey survey_of find_all every assignment_of
       known_is = rw (named, at)
@@ -286,9 +282,9 @@ module _ (x : Lent) (count : ℕ) (sound : check_of x ≡ Sound count) (sar : co
       (known_none seen read a named (no_found t count (data_of a) (λ j b c q. none j (record { from = b; to = c; name = q }))))
   stored_unknown seen read a named (inr (g, none)) = go (find_public t count (data_of a)) refl
     where
-      go : (f : Found) → find_public t count (data_of a) ≡ f → result_of x ≡ Experimental 5001
-      go Nothing e = unknown_result seen read a named (known_none seen read a named e)
-      go (At k) e = user_unknown seen read a named k e g (none_known t count (data_seen seen user_name) none)
+      go : (f : Option ℕ) → find_public t count (data_of a) ≡ f → result_of x ≡ Experimental 5001
+      go None e = unknown_result seen read a named (known_none seen read a named e)
+      go (Some k) e = user_unknown seen read a named k e g (none_known t count (data_seen seen user_name) none)
 
   pub stored_apart : (seen : Seen) → Decides (dialect_in x) x.request seen → (identity : List ℕ) → identities (body_of x.request) ≡ identity ∷ []
       → (k j : ℕ) → Stands t count k (data_of identity) → given seen user_name ≡ true → Belongs t count j (data_seen seen user_name)
@@ -300,7 +296,7 @@ module _ (x : Lent) (count : ℕ) (sound : check_of x ≡ Sound count) (sar : co
   unfolding assignment_of type_of stores_at
   stored_given o =
       let k = o.block in
-      let at : find_public t count (data_of o.identity) ≡ At k = stands_found t count (lent_sound x count sound) k _ o.public in
+      let at : find_public t count (data_of o.identity) ≡ Some k = stands_found t count (lent_sound x count sound) k _ o.public in
       let p = one_place x.request o.identity o.named in
       result_is o.seen o.read
       ∙ asks_plan t count (says o.seen o.read)
@@ -326,10 +322,10 @@ module _ (x : Lent) (count : ℕ) (sound : check_of x ≡ Sound count) (sar : co
       let named : identities (body_of x.request) ≡ identity ∷ [] = sym (identities_at x.request 20) ∙ ap (map (avp_at x.request)) a.one in
       go a named (find_public t count (data_of identity)) refl
     where
-      go : (a : Asks t count (says seen read)) → identities (body_of x.request) ≡ avp_at x.request a.place ∷ [] → (f : Found)
+      go : (a : Asks t count (says seen read)) → identities (body_of x.request) ≡ avp_at x.request a.place ∷ [] → (f : Option ℕ)
           → find_public t count (data_of (avp_at x.request a.place)) ≡ f → StoresOther x count
-      go a named Nothing e = absurd (true≢false (sym (rw (named, e) at a.asked.1)))
-      go a named (At k) e =
+      go a named None e = absurd (true≢false (sym (rw (named, e) at a.asked.1)))
+      go a named (Some k) e =
           let identity = avp_at x.request a.place in
           let o : Only t count (data_of identity) k = found_only t count (data_of identity) (lent_sound x count sound) k e in
           record {

@@ -1,9 +1,8 @@
 -- X5011 is given before all decisions, and by none of them: what a request that is decided upon comes to is another result.
+use Rattle.std.specs.Prelude.{Option, Some, None, Ok}
 use Rattle.octets.specs.Standard.{ℕ, List, [], ◌∷◌, Bool, true, false, not, ◌&&◌, true≢false, ◌≡◌, refl, sym, ap, ◌∙◌, eqb}
 use Rattle.vectors.specs.declared.choice.Sent.{Sent}
 use Rattle.lookup.specs.Find.{find_server}
-use Rattle.lookup.specs.declared.Found.{Found}
-use Rattle.lookup.specs.declared.Found.TheVariants.{At, Nothing}
 use Rattle.reading.specs.Rules.{Seen}
 use Rattle.reading.specs.declared.Dialect.{Dialect}
 use Rattle.reading.specs.declared.Outcome.{Outcome}
@@ -13,7 +12,7 @@ use Rattle.requests.specs.Judged.{Judged, bad, fine}
 use Rattle.requests.specs.Request.{read_in}
 use Rattle.choices.specs.Challenges.{claim_of, challenge_of}
 use Rattle.choices.specs.Choices.{authorization, location}
-use Rattle.choices.specs.Plans.{finding_of, grant, plan_of}
+use Rattle.choices.specs.Plans.{Finding, finding_of, grant, plan_of}
 use Rattle.choices.specs.Types.{asks_only, carries_user, effect_of, is_removal}
 use Rattle.choices.specs.declared.Given.{Given}
 use Rattle.choices.specs.declared.challenge.Claimed.{Claimed}
@@ -21,8 +20,6 @@ use Rattle.choices.specs.declared.choice.Asked.{Asked}
 use Rattle.choices.specs.declared.choice.Choice.{Choice}
 use Rattle.choices.specs.declared.choice.Choice.TheVariants.{Alone, Server, Capabilities, First}
 use Rattle.choices.specs.declared.choice.Sought.{Sought}
-use Rattle.choices.specs.declared.plan.Finding.{Finding}
-use Rattle.choices.specs.declared.plan.Finding.TheVariants.{Fine}
 use Rattle.choices.specs.declared.plan.Plan.{Plan}
 use Rattle.choices.specs.declared.plan.Sar.{Sar}
 use Rattle.choices.specs.declared.plan.Survey.{Survey}
@@ -61,9 +58,9 @@ carried_other t count user k (Server r) h = h
 carried_other t count user k (Capabilities r) h = h
 carried_other t count user k (First r other) h = go (find_server t count user)
   where
-    go : (f : Found) → Other (served_by f r other k).verdict.result
-    go (At j) = h.0
-    go Nothing = h.1
+    go : (f : Option ℕ) → Other (served_by f r other k).verdict.result
+    go (Some j) = h.0
+    go None = h.1
 
 authorization_other : (a : Asked) (kind : ℕ) → Others (authorization a kind)
 unfolding authorization
@@ -99,7 +96,7 @@ module _ (v : Survey) (s : Sar) (first : ℕ) (owned : Bool) (kind : AssignmentT
   abbrev FoundOther : Finding → Type 0
   FoundOther f = Other (plan_of f s first owned).given.verdict.result
 
-  fine_other : FoundOther Fine
+  fine_other : FoundOther (Ok tt)
   unfolding plan_of grant
   fine_other =
       either (λ (g : Given). Other g.verdict.result) (carries_user s.kind) (effect_other s.kind s.keep) (effect_other s.kind s.keep)

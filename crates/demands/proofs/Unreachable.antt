@@ -1,10 +1,10 @@
 -- 02 [7], "A branch nobody can reach.", sentence by sentence: the statements alone, each by the law that has its proof. The branch as it was stands in
 -- older_rules/specs/WithBranch; what the words below mean is in specs/Unable. A call is over an area, `a`, and goes by the table at its front: `table_in
 -- a.table`, or all that is lent with it alone, `table_only a`.
+use Rattle.std.specs.Prelude.{Ok}
 use Rattle.octets.specs.Standard.{ℕ, ◌<◌, ◌≤◌, true, ◌≡◌, ap, ◌⊎◌, ◌≢◌, List, [], ◌∷◌}
 use Rattle.record.specs.Fields.{state_of, server_size}
 use Rattle.blocks.specs.Blocks.{block_of}
-use Rattle.blocks.specs.declared.Checked.TheVariants.{Sound}
 use Rattle.table.specs.Area.{table_in}
 use Rattle.table.specs.Check.{check_table}
 use Rattle.table.specs.Named.{private_at}
@@ -29,12 +29,12 @@ use Rattle.demands.proofs.UnableMar as mars
 use Rattle.demands.proofs.UnableSar as sars
 
 -- "A reader of the code asked how a registered line can lack a server name. It can't."
-pub registered_served : (t : List ℕ) (file count k : ℕ) → check_table t file ≡ Sound count → 1 ≤ k → k ≤ count → 0 < state_of (block_of t k)
+pub registered_served : (t : List ℕ) (file count k : ℕ) → check_table t file ≡ Ok count → 1 ≤ k → k ≤ count → 0 < state_of (block_of t k)
     → 0 < server_size (block_of t k)
 registered_served t file count k e = sound_served t count (record { file = file; checked = e }) k
 
 -- "Show that the B5012 of UAR and LIR is never given over a sound table,": with the branch in the decisions
-pub never_given : (a : Lent) (count : ℕ) → check_of (table_only a) ≡ Sound count → (command_of a.request ≡ 300) ⊎ (command_of a.request ≡ 302)
+pub never_given : (a : Lent) (count : ℕ) → check_of (table_only a) ≡ Ok count → (command_of a.request ≡ 300) ⊎ (command_of a.request ≡ 302)
     → (decision_by with_branch (table_only a) count).given.verdict.result ≢ Base 5012
 never_given a = unable.branch_never (table_only a)
 
@@ -47,7 +47,7 @@ pub whose_stays : (a : Lent) → result_of (table_only a) ≡ Base 5012 → (com
 whose_stays a = unable.unable_whose (dialect_in a) a.request (table_in a.table) (check_value (check_of (table_only a))) a.vectors
 
 -- .. to a SAR exactly of type 0, where its record stores another name than the request's, for which another type would get X5005; after X5001 and X5002 ..
-module _ (a : Lent) (count : ℕ) (sound : check_of (table_only a) ≡ Sound count) (sar : command_of a.request ≡ 301) where
+module _ (a : Lent) (count : ℕ) (sound : check_of (table_only a) ≡ Ok count) (sar : command_of a.request ≡ 301) where
   pub sar_stays : StoresOther (table_only a) count → result_of (table_only a) ≡ Base 5012
   sar_stays = sars.stored_given (table_only a) count sound sar
 
@@ -67,7 +67,7 @@ module _ (a : Lent) (count : ℕ) (sound : check_of (table_only a) ≡ Sound cou
   sar_apart = sars.stored_apart (table_only a) count sound sar
 
 -- .. and to a MAR exactly where none is asked, or no vector of that name is unused; after X5001, X5002 and X5006
-module _ (a : Lent) (count : ℕ) (sound : check_of (table_only a) ≡ Sound count) (mar : command_of a.request ≡ 303) where
+module _ (a : Lent) (count : ℕ) (sound : check_of (table_only a) ≡ Ok count) (mar : command_of a.request ≡ 303) where
   pub mar_stays : NoneToSend (table_only a) count → result_of (table_only a) ≡ Base 5012
   mar_stays = mars.challenge_given (table_only a) count sound mar
 

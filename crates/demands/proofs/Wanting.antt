@@ -6,7 +6,7 @@ use Rattle.octets.proofs.All.{and_left, and_right, all_at}
 use Rattle.diameter.specs.Avp.{avp_flags, data_of, marked}
 use Rattle.diameter.specs.Message.{body_of}
 use Rattle.diameter.specs.Walk.{Walk, ended, faulty, avp, walk, some_avp, behind_first}
-use Rattle.reading.specs.Features.{is_features, bit_of, clear_or_in, bit_outside, asks_other, asks, asks_beyond, passes, calls_list}
+use Rattle.reading.specs.Features.{is_features, bit_of, clear_or_in, bit_outside, asks_other, asks, asks_beyond, calls_list}
 use Rattle.reading.specs.Kinds.{kind_of, use_of, is_unknown, sh, supported_features}
 use Rattle.reading.specs.Rules.{Seen}
 use Rattle.reading.specs.declared.Dialect.{Dialect}

@@ -1,6 +1,5 @@
 -- What can be said of one call: its refusals, each exactly under its condition, and its answer.
-use Rattle.std.specs.Prelude.{ℕ, ◌≤◌, ◌≡◌, List, ◌∷◌, ◌++◌, Bool, false, not, ◌&&◌, length, eqb}
-use Rattle.blocks.specs.declared.Checked.TheVariants.{Sound}
+use Rattle.std.specs.Prelude.{ℕ, ◌≤◌, ◌≡◌, List, ◌∷◌, ◌++◌, Bool, false, not, ◌&&◌, length, eqb, Ok}
 use Rattle.vectors.specs.VectorFile.{SoundVectors}
 use Rattle.reading.specs.Rules.{Seen}
 use Rattle.reading.specs.declared.Dialect.{Dialect}
@@ -22,7 +21,7 @@ answer_to x count = answer_of x (decision x count)
 
 abbrev pub Fits : Lent → Type 0
 Fits x =
-    wrong_size x.request ≡ false → wrong_length x.request ≡ false → (count : ℕ) → check_of x ≡ Sound count → SoundVectors x.vectors
+    wrong_size x.request ≡ false → wrong_length x.request ≡ false → (count : ℕ) → check_of x ≡ Ok count → SoundVectors x.vectors
     → length (answer_to x count) ≤ 36864
 
 -- a request in which reading finds no fault and which asks for no feature outside the set: it is decided upon

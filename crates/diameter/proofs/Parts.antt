@@ -1,4 +1,5 @@
 -- What is read out of an AVP at a place: its code, vendor and number, its own bytes, its data, and the members of a group.
+use Rattle.std.specs.Prelude.{Result, Ok, Err, is_ok}
 use Rattle.octets.specs.Standard.{ℕ, zero, suc, ◌+◌, ◌-◌, ◌≤◌, ◌<◌, min, add-zero, zero-add, suc-add, add-sub_cancel_left, ◌≡◌, refl, sym, ap, ◌∙◌}
 use Rattle.octets.specs.Standard.{List, [], ◌∷◌, Bool, true, false, cond, arith, length, take, drop, length-take, length-drop, drop-drop, drop-nil}
 use Rattle.octets.specs.Standard.{take-nil, take-take, take-length, get_or-drop, get_or-take, length-take-le, leb, eq-eqb, ne_eqb}
@@ -9,10 +10,8 @@ use Rattle.diameter.specs.Reader.{between, read_of, own_of, Here, Spans}
 use Rattle.diameter.specs.AvpAt.{part_at, present, data_at}
 use Rattle.diameter.specs.Walk.{ended, faulty, avp, walk}
 use Rattle.diameter.specs.declared.Avp.{Avp}
-use Rattle.diameter.specs.declared.Read.{Read}
 use Rattle.diameter.specs.declared.Span.{Span}
 use Rattle.diameter.proofs.Reading.{Says, own_avp_head, own_code, own_vendor, read_says, read_fault_says, read_none, walk_past}
-use Rattle.diameter.specs.declared.Read.TheVariants as read
 
 drop-take : (k m : ℕ) (l : List ℕ) → drop k (take (k + m) l) ≡ take m (drop k l)
 drop-take zero m l = simp zero-add
@@ -108,8 +107,8 @@ part_is s from end o =
     sym (ap (λ (k : ℕ). drop from (take k s)) n ∙ drop-take from (end - from) s)
 
 -- A member that is read before its group's end stands in the message.
-module _ (s : List ℕ) (at end : ℕ) (r : Read) (e : r ≡ read_of at (between s at end)) where
-  module _ (a : Avp) (d : r ≡ read.Avp a) where
+module _ (s : List ℕ) (at end : ℕ) (r : Result Avp ℕ) (e : r ≡ read_of at (between s at end)) where
+  module _ (a : Avp) (d : r ≡ Ok a) where
     pub member_says : Says (take end s) at a
     unfolding between
     member_says = read_says (take end s) at r e a d
@@ -121,7 +120,7 @@ module _ (s : List ℕ) (at end : ℕ) (r : Read) (e : r ≡ read_of at (between
     unfolding between
     member_walked = rw (← own_before s end a member_says.here) member_says.walked
 
-  pub member_fault : {p : ℕ} → r ≡ read.Fault p → at < end → end ≤ length s → walk (between s at end) ≡ faulty (between s at end)
+  pub member_fault : {p : ℕ} → r ≡ Err p → at < end → end ≤ length s → walk (between s at end) ≡ faulty (between s at end)
   unfolding between
   member_fault d l fits = read_fault_says (take end s) at r e d (rw (length-take-le end s fits) l)
 
@@ -130,15 +129,16 @@ unfolding between
 member_past s at end l = walk_past (take end s) at (rw length-take (omega arith))
 
 -- the reader's answer, and what is then at the place
-module _ (s : List ℕ) (at : ℕ) (r : Read) (e : r ≡ read_of at (drop at s)) where
-  pub present_whole : (a : Avp) → r ≡ read.Avp a → true ≡ present (part_at s at)
-  present_whole a d = rw (read_says s at r e a d).part
+module _ (s : List ℕ) (at : ℕ) (r : Result Avp ℕ) (e : r ≡ read_of at (drop at s)) where
+  pub present_is : {x : Bool} → x ≡ is_ok r → x ≡ present (part_at s at)
+  present_is g = g ∙ go r refl
+    where
+      go : (q : Result Avp ℕ) → r ≡ q → is_ok q ≡ present (part_at s at)
+      go (Ok a) d = rw (read_says s at r e a d).part
+      go (Err p) d = rw (read_none s at r e d)
 
-  pub present_none : {p : ℕ} → r ≡ read.Fault p → false ≡ present (part_at s at)
-  present_none d = rw (read_none s at r e d)
-
-module _ (s : List ℕ) (at end : ℕ) (r : Read) (e : r ≡ read_of at (between s at end)) where
-  pub span_none : {p : ℕ} → r ≡ read.Fault p → Spans s (data_at (between s at end) 0) (record { from = 0; end = 0 })
+module _ (s : List ℕ) (at end : ℕ) (r : Result Avp ℕ) (e : r ≡ read_of at (between s at end)) where
+  pub span_none : {p : ℕ} → r ≡ Err p → Spans s (data_at (between s at end) 0) (record { from = 0; end = 0 })
   unfolding between
   span_none d = record {
     ordered = omega arith;
@@ -146,7 +146,7 @@ module _ (s : List ℕ) (at end : ℕ) (r : Read) (e : r ≡ read_of at (between
     holds = rw (read_none (take end s) at r e d) (sym (drop-nil (head_of 0)));
   }
 
-  pub span_there : (a : Avp) (p : Span) → r ≡ read.Avp a → Spans s (data_of (own_of s a)) p → Spans s (data_at (between s at end) 0) p
+  pub span_there : (a : Avp) (p : Span) → r ≡ Ok a → Spans s (data_of (own_of s a)) p → Spans s (data_at (between s at end) 0) p
   unfolding between
   span_there a p d h =
       let says = member_says s at end r e a d in

@@ -1,4 +1,5 @@
 -- The reader's answer: from the numbers that the code has, and what it says of the bytes to a caller.
+use Rattle.std.specs.Prelude.{Result, Ok, Err}
 use Rattle.octets.specs.Standard.{ℕ, ◌+◌, ◌-◌, ◌≤◌, ◌<◌, ◌≡◌, refl, sym, ◌∙◌, subst, List, none, some, Bool, true, false, cond, arith, length, take}
 use Rattle.octets.specs.Standard.{drop, get_or, length-take, length-drop, drop_of_length-le, get_or-drop, get_or-take, drop-drop, length-take-le}
 use Rattle.octets.specs.Standard.{take-length, leb}
@@ -9,10 +10,8 @@ use Rattle.diameter.specs.Walk.{ended, faulty, avp, walk}
 use Rattle.diameter.specs.Reader.{between, avp_here, read_of, begins_at, own_of, Here}
 use Rattle.diameter.specs.AvpAt.{avp_of, part_at}
 use Rattle.diameter.specs.declared.Avp.{Avp}
-use Rattle.diameter.specs.declared.Read.{Read}
 use Rattle.diameter.proofs.Walks.{Sound, sound_says, sound_of, not_sound, walk_sound, walk_faulty, walk_nil, padded_least, head_least}
 use Rattle.diameter.proofs.Walks.{head_most}
-use Rattle.diameter.specs.declared.Read.TheVariants as read
 
 -- the header at a place, by places of the message, of which only what stands before an end is looked at
 pub record SoundAt (s : List ℕ) (at end : ℕ) : Type 0 where
@@ -40,7 +39,7 @@ module _ (s : List ℕ) (at end : ℕ) where
         within = rw (← len_at room) (omega (arith, left_most, h.within));
       }
 
-  pub read_fault : (SoundAt s at end → ⊥) → read.Fault at ≡ read_of at (between s at end)
+  pub read_fault : (SoundAt s at end → ⊥) → Err at ≡ read_of at (between s at end)
   unfolding read_of between
   read_fault never = rw (not_sound (drop at (take end s)) (λ w. never (sound_at_lem w)))
 
@@ -56,7 +55,7 @@ module _ (s : List ℕ) (at end : ℕ) where
 
     pub read_whole : (len pad head flags : ℕ) → flags ≡ get_or s (at + 4) 0 → head ≡ head_of flags → len ≡ be24_at s (at + 5) → head ≤ len → len ≤ end - at
         → pad ≡ padded len
-        → read.Avp (record { at = at; len = len; next = at + pad; head = head; flags = flags }) ≡ read_of at (between s at end)
+        → Ok (record { at = at; len = len; next = at + pad; head = head; flags = flags }) ≡ read_of at (between s at end)
     unfolding read_of avp_here between
     read_whole len pad head flags ef eh el p q en =
         let w : SoundAt s at end =
@@ -65,15 +64,15 @@ module _ (s : List ℕ) (at end : ℕ) where
         rw (at_sound w, len_at room, flags_at room, ← ef, ← eh, ← el, ← en)
 
 -- up to the message's end
-pub read_all : (s : List ℕ) (at : ℕ) (r : Read) → r ≡ read_of at (between s at (length s)) → r ≡ read_of at (drop at s)
+pub read_all : (s : List ℕ) (at : ℕ) (r : Result Avp ℕ) → r ≡ read_of at (between s at (length s)) → r ≡ read_of at (drop at s)
 unfolding between
 read_all s at r e = rw (take-length s) at e
 
-avp_means : (b : Bool) (at : ℕ) (a x : Avp) → read.Avp a ≡ cond b (read.Avp x) (read.Fault at) → (b ≡ true) × (a ≡ x)
+avp_means : (b : Bool) (at : ℕ) (a x : Avp) → Ok a ≡ cond b (Ok x) (Err at) → (b ≡ true) × (a ≡ x)
 avp_means true at a x e = (refl, cc)
 avp_means false at a x e = let z : ◌≡◌ {A = ℕ} 0 1 = cc in absurd (omega arith)
 
-fault_means : (b : Bool) (at p : ℕ) (x : Avp) → read.Fault p ≡ cond b (read.Avp x) (read.Fault at) → b ≡ false
+fault_means : (b : Bool) (at p : ℕ) (x : Avp) → Err p ≡ cond b (Ok x) (Err at) → b ≡ false
 fault_means true at p x e = let z : ◌≡◌ {A = ℕ} 0 1 = cc in absurd (omega arith)
 fault_means false at p x e = refl
 
@@ -111,27 +110,27 @@ module _ (s : List ℕ) (a : Avp) (h : Here s a) where
   own_vendor = vendor_take (drop a.at s) a.len own_head
 
 -- whatever was looked at: the reader says the byte that it was asked of, of a whole AVP and of a fault; the next place is a later one
-module _ (at : ℕ) (t : List ℕ) (r : Read) (e : r ≡ read_of at t) where
+module _ (at : ℕ) (t : List ℕ) (r : Result Avp ℕ) (e : r ≡ read_of at t) where
   pub read_begins : begins_at r ≡ at
   unfolding read_of begins_at avp_here
   read_begins = rw e (go (sound t))
     where
-      go : (b : Bool) → begins_at (cond b (read.Avp (avp_here at t)) (read.Fault at)) ≡ at
+      go : (b : Bool) → begins_at (cond b (Ok (avp_here at t)) (Err at)) ≡ at
       go true = refl
       go false = refl
 
-  pub read_later : (a : Avp) → r ≡ read.Avp a → at < a.next
+  pub read_later : (a : Avp) → r ≡ Ok a → at < a.next
   unfolding read_of avp_here
   read_later a d =
       let m = avp_means (sound t) at a (avp_here at t) (sym d ∙ e) in
       let h = sound_says t m.0 in
       rw m.1 (omega (arith, padded_least (avp_len t), h.eight, h.least))
 
-pub begins_whole : (r : Read) (a : Avp) → r ≡ read.Avp a → a.at ≡ begins_at r
+pub begins_whole : (r : Result Avp ℕ) (a : Avp) → r ≡ Ok a → a.at ≡ begins_at r
 unfolding begins_at
 begins_whole r a d = rw d
 
-pub begins_fault : (r : Read) (at : ℕ) → r ≡ read.Fault at → at ≡ begins_at r
+pub begins_fault : (r : Result Avp ℕ) (at : ℕ) → r ≡ Err at → at ≡ begins_at r
 unfolding begins_at
 begins_fault r at d = rw d
 
@@ -170,17 +169,17 @@ module _ (s : List ℕ) (at : ℕ) (good : sound (drop at s) ≡ true) where
         later = omega (arith, padded_least (avp_len t), h.eight, h.least);
       }
 
-module _ (s : List ℕ) (at : ℕ) (r : Read) (e : r ≡ read_of at (drop at s)) where
-  pub read_says : (a : Avp) → r ≡ read.Avp a → Says s at a
+module _ (s : List ℕ) (at : ℕ) (r : Result Avp ℕ) (e : r ≡ read_of at (drop at s)) where
+  pub read_says : (a : Avp) → r ≡ Ok a → Says s at a
   unfolding read_of
   read_says a d =
       let m = avp_means (sound (drop at s)) at a (avp_here at (drop at s)) (sym d ∙ e) in
       rw m.1 (avp_says s at m.0)
 
-  pub read_here : (a : Avp) → r ≡ read.Avp a → Here s a
+  pub read_here : (a : Avp) → r ≡ Ok a → Here s a
   read_here a d = (read_says a d).here
 
-  module _ {p : ℕ} (d : r ≡ read.Fault p) where
+  module _ {p : ℕ} (d : r ≡ Err p) where
     pub read_unsound : sound (drop at s) ≡ false
     unfolding read_of
     read_unsound = fault_means (sound (drop at s)) at p (avp_here at (drop at s)) (sym d ∙ e)

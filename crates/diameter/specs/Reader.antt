@@ -1,10 +1,8 @@
 -- What the AVP reader answers at a place, in terms of the bytes from there on.
-use Rattle.std.specs.Prelude.{ℕ, ◌+◌, ◌≤◌, ◌≡◌, List, cond, length, take, drop}
+use Rattle.std.specs.Prelude.{ℕ, ◌+◌, ◌≤◌, ◌≡◌, List, cond, length, take, drop, Result, Ok, Err}
 use Rattle.diameter.specs.Avp.{padded, avp_flags, avp_head, avp_len, sound}
 use Rattle.diameter.specs.declared.Avp.{Avp}
-use Rattle.diameter.specs.declared.Read.{Read}
 use Rattle.diameter.specs.declared.Span.{Span}
-use Rattle.diameter.specs.declared.Read.TheVariants as read
 
 -- the bytes of a message from a place on, up to an end
 unfoldable pub between : List ℕ → ℕ → ℕ → List ℕ
@@ -14,13 +12,13 @@ between s at end = drop at (take end s)
 unfoldable pub avp_here : ℕ → List ℕ → Avp
 avp_here at t = record { at = at; len = avp_len t; next = at + padded (avp_len t); head = avp_head t; flags = avp_flags t }
 
-unfoldable pub read_of : ℕ → List ℕ → Read
-read_of at t = cond (sound t) (read.Avp (avp_here at t)) (read.Fault at)
+unfoldable pub read_of : ℕ → List ℕ → Result Avp ℕ
+read_of at t = cond (sound t) (Ok (avp_here at t)) (Err at)
 
 -- "at which byte of the message an AVP begins", one with a faulty length too
-unfoldable pub begins_at : Read → ℕ
-begins_at (read.Avp a) = a.at
-begins_at (read.Fault at) = at
+unfoldable pub begins_at : Result Avp ℕ → ℕ
+begins_at (Ok a) = a.at
+begins_at (Err at) = at
 
 -- the bytes of an AVP that was read
 abbrev pub own_of : List ℕ → Avp → List ℕ

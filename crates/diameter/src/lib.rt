@@ -32,20 +32,13 @@ pub struct Span {
     pub end: usize,
 }
 
-// What stands at a place of a message: a whole AVP; or none, because its length is faulty or because the bytes are at an end, with that place.
-#[derive(Clone, Copy)]
-pub enum Read {
-    Avp(Avp),
-    Fault(usize),
-}
-
 // The byte of the message at which the AVP that was read begins, whole or at fault.
-pub fn begins(read: Read) -> usize
+pub fn begins(read: Result<Avp, usize>) -> usize
     ensures { result ≡ begins_at read }
 {
     match read {
-        Read::Avp(a) => a.at,
-        Read::Fault(at) => at,
+        Ok(a) => a.at,
+        Err(at) => at,
     }
 }
 
@@ -61,35 +54,35 @@ fn pad(n: usize) -> usize
     requires { n < 16777216 }
     ensures { (result ≡ padded n) × (n ≤ result) × (result ≤ n + 3) }
 {
-    (n + 3) / 4 * 4
+    n.next_multiple_of(4)
 }
 
 // The AVP at a place of a message, or the fault of its length: what stands behind an end, a group's or the message's, is not looked at.
-pub fn read_before(s: &[u8], at: usize, end: usize) -> Read
+pub fn read_before(s: &[u8], at: usize, end: usize) -> Result<Avp, usize>
     requires { end ≤ length s.now }
     ensures { result ≡ read_of at (between s.now at end) }
 {
     if end <= at {
-        return Read::Fault(at);
+        return Err(at);
     }
     let left = end - at;
     if left < 8 {
-        return Read::Fault(at);
+        return Err(at);
     }
     let flags = s[at + 4];
     let head = head_size(flags);
     if left < head {
-        return Read::Fault(at);
+        return Err(at);
     }
     let size = octets::number::be24(s, at + 5);
     if size < head {
-        return Read::Fault(at);
+        return Err(at);
     }
     if left < size {
-        return Read::Fault(at);
+        return Err(at);
     }
     let whole = pad(size);
-    Read::Avp(Avp {
+    Ok(Avp {
         at,
         len: size,
         next: at + whole,
@@ -99,7 +92,7 @@ pub fn read_before(s: &[u8], at: usize, end: usize) -> Read
 }
 
 // The AVP at a place, up to the message's end.
-pub fn read_avp(s: &[u8], at: usize) -> Read
+pub fn read_avp(s: &[u8], at: usize) -> Result<Avp, usize>
     ensures { result ≡ read_of at (drop at s.now) }
 {
     read_before(s, at, s.len())
@@ -109,10 +102,7 @@ pub fn read_avp(s: &[u8], at: usize) -> Read
 pub fn present_at(s: &[u8], at: usize) -> bool
     ensures { result ≡ present (part_at s.now at) }
 {
-    let Read::Avp(_) = read_avp(s, at) else {
-        return false;
-    };
-    true
+    read_avp(s, at).is_ok()
 }
 
 // An AVP's code.
@@ -123,7 +113,7 @@ pub fn code_of(s: &[u8], a: Avp) -> u32
     octets::number::be32(s, a.at)
 }
 
-// Its vendor, 0 without V.
+// Its vendor, 0 without V: the definition `vendor_of` says so.
 pub fn vendor_of(s: &[u8], a: Avp) -> u32
     requires { Here s.now a }
     ensures { result ≡ vendor_of (own_of s.now a) }
@@ -134,7 +124,7 @@ pub fn vendor_of(s: &[u8], a: Avp) -> u32
     0
 }
 
-// The number that it holds, 0 where it has not 4 bytes of data.
+// The number that it holds, 0 where it has not 4 bytes of data: the definition `value_of` says so.
 pub fn value_of(s: &[u8], a: Avp) -> u32
     requires { Here s.now a }
     ensures { result ≡ value_of (own_of s.now a) }
@@ -150,9 +140,7 @@ pub fn avp_part(s: &[u8], a: Avp) -> &[u8]
     requires { Here s.now a }
     ensures { (result.now ≡ own_of s.now a) × (length result.now ≤ length s.now) }
 {
-    let at = a.at;
-    let end = at + a.len;
-    &s[at..end]
+    &s[a.at..a.at + a.len]
 }
 
 // Where its data stand.
@@ -171,7 +159,7 @@ pub fn span_at(s: &[u8], at: usize, end: usize) -> Span
     requires { end ≤ length s.now }
     ensures { Spans s.now (data_at (between s.now at end) 0) result }
 {
-    let Read::Avp(a) = read_before(s, at, end) else {
+    let Ok(a) = read_before(s, at, end) else {
         return Span { from: 0, end: 0 };
     };
     span_of(s, a)
@@ -182,9 +170,7 @@ pub fn part(s: &[u8], span: Span) -> &[u8]
     requires { (span.from ≤ span.end) × (span.end ≤ length s.now) }
     ensures { (result.now ≡ between s.now span.from span.end) × (length result.now ≤ length s.now) }
 {
-    let from = span.from;
-    let end = span.end;
-    &s[from..end]
+    &s[span.from..span.end]
 }
 
 // The data of the AVP at a place: empty where no whole AVP stands.

@@ -1,4 +1,5 @@
 -- Every Proxy-Info, copied: one AVP, and the turns of the loop over the walk.
+use Rattle.std.specs.Prelude.{Result, Ok, Err}
 use Rattle.octets.specs.Standard.{ℕ, ◌+◌, ◌-◌, ◌≤◌, ◌<◌, ◌≡◌, refl, ap, List, ◌++◌, arith, length, drop, length-append, length-take, length-drop}
 use Rattle.octets.specs.Standard.{eq-eqb, ne_eqb, mid_of, put_mid}
 use Rattle.octets.specs.Run.{over, Wrote}
@@ -6,13 +7,11 @@ use Rattle.octets.proofs.Writes.{Going, going_more, going_end}
 use Rattle.diameter.specs.Walk.{walk}
 use Rattle.diameter.specs.Reader.{read_of, own_of}
 use Rattle.diameter.specs.declared.Avp.{Avp}
-use Rattle.diameter.specs.declared.Read.{Read}
 use Rattle.diameter.proofs.Reading.{read_says, read_fault_says, walk_past}
 use Rattle.pen.specs.Bytes.{copied, copied_size, if_there}
 use Rattle.pen.proofs.Sizes.{copied_length}
 use Rattle.reading.specs.Kinds.{kind_of, proxy_info}
 use Rattle.envelope.specs.End.{proxy, proxies}
-use Rattle.diameter.specs.declared.Read.TheVariants as read
 
 -- what was written fits where it stands
 pub wrote_fits : {w b xs : List ℕ} {n : ℕ} → Wrote w b xs n → length xs ≡ length b → n ≤ length b
@@ -40,12 +39,12 @@ module _ (s : List ℕ) (at : ℕ) {b xs all : List ℕ} {n : ℕ} where
   unfolding proxies
   proxies_end h g = going_end (rw (walk_past s at h) at g)
 
-  module _ (r : Read) (e : r ≡ read_of at (drop at s)) where
-    pub proxies_fault : {p : ℕ} → at < length s → r ≡ read.Fault p → Going b xs n (proxies (walk (drop at s))) all → Wrote all b xs n
+  module _ (r : Result Avp ℕ) (e : r ≡ read_of at (drop at s)) where
+    pub proxies_fault : {p : ℕ} → at < length s → r ≡ Err p → Going b xs n (proxies (walk (drop at s))) all → Wrote all b xs n
     unfolding proxies
     proxies_fault h d g = going_end (rw (read_fault_says s at r e d h) at g)
 
-    module _ (a : Avp) (d : r ≡ read.Avp a) (g : Going b xs n (proxies (walk (drop at s))) all) where
+    module _ (a : Avp) (d : r ≡ Ok a) (g : Going b xs n (proxies (walk (drop at s))) all) where
       step : Going b xs n (proxy (own_of s a) ++ proxies (walk (drop a.next s))) all
       unfolding proxies proxy
       step = rw (read_says s at r e a d).walked at g

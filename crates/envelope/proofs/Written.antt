@@ -1,6 +1,6 @@
 -- How every answer begins, and its header, each written by the writers of its parts.
 use Rattle.octets.specs.Standard.{ℕ, ◌+◌, ◌*◌, ◌/◌, ◌%◌, ◌≤◌, ◌≡◌, refl, sym, ◌∙◌, List, arith, length, get_or, take, drop, length-append}
-use Rattle.octets.specs.Standard.{length-take, length-drop, eq-eqb, ne_eqb}
+use Rattle.octets.specs.Standard.{length-drop, eq-eqb, ne_eqb}
 use Rattle.octets.specs.Run.{Wrote}
 use Rattle.octets.proofs.Writes.{lent, back, then, named}
 use Rattle.record.specs.Fields.{host_of, realm_of}
@@ -17,6 +17,12 @@ use Rattle.reading.specs.declared.Outcome.TheVariants.{Base, Experimental}
 use Rattle.envelope.specs.Front.{result_bytes, front_bytes, origin_bytes}
 use Rattle.envelope.specs.Header.{flags_of, start_bytes, header_bytes}
 use Rattle.envelope.proofs.Rooms.{room_left, room_right, wrote_most, wrote_within}
+use Rattle.std.specs.Int.{to_be_bytes}
+use Rattle.std.proofs.Common.{w64}
+use Rattle.octets.proofs.Writes.{over_snoc}
+use Rattle.octets.specs.Run.{over}
+use Rattle.pen.proofs.Writers.{wrote_part}
+use Rattle.octets.specs.Standard.{set, put_mid, length-take-le, length-drop, [], ◌∷◌, ◌/◌, ◌%◌, take, drop}
 
 -- The result.
 module _ (o : Outcome) (n : ℕ) where
@@ -94,8 +100,17 @@ module _ (flags n : ℕ) (result : Outcome) (is : n ≡ number_of result) where
   unfolding flags_of
   flags_plain h = rw (← is, ne_eqb (n / 1000) 3 h) (omega arith)
 
-pub wrote_header : (req : List ℕ) (result : Outcome) (n f : ℕ) {b xs ys : List ℕ} → 20 ≤ length req → f ≡ flags_of (get_or req 4 0) result
-    → Wrote (start_bytes n f) b xs 5
-    → Wrote (take 15 (drop 5 req)) (lent 5 xs) ys (length (take 15 (drop 5 req))) → Wrote (header_bytes req result n) b (back 5 xs ys) 20
+pub wrote_start : (n flags : ℕ) {b ys zs : List ℕ} → 5 ≤ length b → zs ≡ to_be_bytes w64 n → ys ≡ take 3 (drop 5 zs)
+    → Wrote (start_bytes n flags) b (set (put_mid 1 3 (set b 0 1) ys) 4 flags) 5
+unfolding over
+wrote_start n flags {b} {ys} room e f =
+    let three : List ℕ = n / 65536 % 256 ∷ n / 256 % 256 ∷ n % 256 ∷ [] in
+    let one : Wrote (1 ∷ []) b (set b 0 1) 1 = record { count = refl; bytes = over_snoc [] b 0 1 refl (omega arith) } in
+    let four : Wrote (1 ∷ three) b (put_mid 1 3 (set b 0 1) ys) 4 = wrote_part 1 3 one (rw e at f) refl in
+    record { count = refl; bytes = rw four.bytes (over_snoc (1 ∷ three) b 4 flags refl (omega arith)) }
+
+pub wrote_header : (req : List ℕ) (result : Outcome) (n flags : ℕ) {b xs ys : List ℕ} → 20 ≤ length req → flags ≡ flags_of (get_or req 4 0) result
+    → Wrote (start_bytes n flags) b xs 5 → ys ≡ take 15 (drop 5 req) → Wrote (header_bytes req result n) b (put_mid 5 15 xs ys) 20
 unfolding header_bytes
-wrote_header req result n f room e p q = named (rw e) (simp (length-take, length-drop) (omega arith)) (then p q)
+wrote_header req result n flags room e p f =
+    named (rw e) refl (wrote_part 5 15 p f (length-take-le 15 (drop 5 req) (omega (arith, length-drop 5 req))))

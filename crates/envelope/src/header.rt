@@ -5,7 +5,6 @@ ghost use Rattle.envelope.specs.Header.{flags_of, start_bytes, header_bytes};
 
 use diameter::message;
 use diameter::message::{E_BIT, P_BIT};
-use octets::run;
 use reading::Outcome;
 
 // "flags P as received and E exactly for 3xxx, no others"
@@ -24,9 +23,7 @@ fn put_start(out: &mut [u8], n: usize, flags: u8)
     ensures { Wrote (start_bytes n flags) out.old out.new 5 }
 {
     out[message::VERSION_AT] = message::VERSION;
-    out[1] = (n / 65536 % 256) as u8;
-    out[2] = (n / 256 % 256) as u8;
-    out[3] = (n % 256) as u8;
+    out[1..4].copy_from_slice(&n.to_be_bytes()[5..]);
     out[message::FLAGS_AT] = flags;
 }
 
@@ -36,8 +33,7 @@ pub fn put_header(out: &mut [u8], req: &[u8], res: Outcome, n: usize)
     ensures { Wrote (header_bytes req.now res n) out.old out.new 20 }
 {
     put_start(out, n, flags_of(req[message::FLAGS_AT], res));
-    run::copy(
-        &mut out[message::COMMAND_AT..],
+    out[message::COMMAND_AT..message::BODY].copy_from_slice(
         &req[message::COMMAND_AT..message::BODY],
     );
 }

@@ -6,7 +6,7 @@ ghost use Rattle.diameter.specs.Message.{body_of};
 ghost use Rattle.failed.specs.Failing.{failed_by};
 ghost use Rattle.envelope.specs.End.{failed_part, proxy, proxies, end_bytes};
 
-use diameter::{Avp, Read, message};
+use diameter::{Avp, message};
 use reading::{Verdict, kinds};
 
 // Failed-AVP, where there is one.
@@ -45,7 +45,7 @@ fn put_proxies(out: &mut [u8], req: &[u8]) -> usize
     let mut at = message::BODY;
     let mut n = 0;
     while at < req.len() {
-        let Read::Avp(a) = diameter::read_avp(req, at) else {
+        let Ok(a) = diameter::read_avp(req, at) else {
             return n;
         };
         n += put_proxy(&mut out[n..], req, a);

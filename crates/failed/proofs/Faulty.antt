@@ -1,12 +1,12 @@
 -- The faulty AVP of a request: its own bytes, or its header alone.
 use Rattle.octets.specs.Standard.{ℕ, ◌+◌, ◌-◌, ◌*◌, ◌/◌, ◌%◌, ◌≤◌, ◌<◌, min, ◌≡◌, refl, sym, ap, ◌∙◌, Bool, true, false, cond, List, [], ◌∷◌, arith}
 use Rattle.octets.specs.Standard.{add-sub_cancel_left, leb, length, get_or, take, drop, set, length-take, length-drop, length-set, drop_of_length-le}
-use Rattle.octets.specs.Standard.{take-nil, get_or-drop, leb-true, le-leb, lt-leb, eq-eqb, ne_eqb}
+use Rattle.octets.specs.Standard.{take-nil, get_or-drop, le-leb, lt-leb, eq-eqb, ne_eqb}
 use Rattle.octets.specs.Number.{be24_at, put_be24}
 use Rattle.octets.specs.Run.{over, Wrote}
 use Rattle.octets.proofs.Writes.{named, over_length}
-use Rattle.octets.proofs.Parts.{part_cut, nothing}
-use Rattle.diameter.specs.Avp.{head_of, avp_flags, avp_head, avp_len}
+use Rattle.octets.proofs.Parts.{part_cut}
+use Rattle.diameter.specs.Avp.{head_of, avp_head, avp_len}
 use Rattle.pen.specs.Bytes.{copied, group}
 use Rattle.pen.specs.Groups.{failed, failed_size}
 use Rattle.pen.proofs.Groups.{failed_length}
@@ -26,7 +26,7 @@ pub whole_there : (s : List ℕ) (at n to : ℕ) → at < length s → n ≡ avp
 whole_there s at n to h en et = part_cut s at n to (length s) refl (omega arith) et ∙ ap (λ (m : ℕ). take m (drop at s)) en
 
 -- The header, whole or cut off.
-pub head_past : (s : List ℕ) (at : ℕ) → length s ≤ at → [] ≡ head_part (drop at s)
+pub head_past : (s : List ℕ) (at : ℕ) → length s ≤ at → head_part (drop at s) ≡ []
 unfolding head_part head_of
 head_past s at h = rw (drop_of_length-le s h)
 
@@ -34,7 +34,7 @@ module _ (s : List ℕ) (at head flags : ℕ) (ef : flags ≡ get_or s (at + 4) 
   head_is : avp_head (drop at s) ≡ head
   head_is = rw (get_or-drop at s 4 0, ← ef, ← eh)
 
-  pub head_cut : at < length s → length s - at < head → [] ≡ head_part (drop at s)
+  pub head_cut : at < length s → length s - at < head → head_part (drop at s) ≡ []
   unfolding head_part
   head_cut a h = rw (head_is, length-drop at s, lt-leb head (length s - at) h)
 
@@ -42,19 +42,14 @@ module _ (s : List ℕ) (at head flags : ℕ) (ef : flags ≡ get_or s (at + 4) 
   unfolding head_part
   head_there h = rw (head_is, length-drop at s, le-leb head (length s - at) h, add-sub_cancel_left at head)
 
-pub head_short : (s : List ℕ) (at head : ℕ) → head ≤ 12 → length (take (at + head - at) (drop at s)) ≤ 12
-head_short s at head h = rw (add-sub_cancel_left at head, length-take) (omega arith)
-
--- a header that is there has 8 bytes at least
-head_long : (t : List ℕ) → 0 < length (head_part t) → 8 ≤ length (head_part t)
-unfolding head_part head_of
-head_long t h = go (leb 128 (avp_flags t)) (leb (avp_head t) (length t)) refl h
+pub head_short : (s : List ℕ) (at head flags : ℕ) → head ≡ head_of flags → head ≤ length s - at
+    → (8 ≤ length (take (at + head - at) (drop at s))) × (length (take (at + head - at) (drop at s)) ≤ 12)
+unfolding head_of
+head_short s at head flags e h = go (leb 128 flags) e
   where
-    go : (v there : Bool) → leb (cond v 12 8) (length t) ≡ there → 0 < length (cond there (take (cond v 12 8) t) [])
-        → 8 ≤ length (cond there (take (cond v 12 8) t) [])
-    go true true e k = rw length-take (omega (arith, leb-true 12 (length t) e))
-    go false true e k = rw length-take (omega (arith, leb-true 8 (length t) e))
-    go v false e k = absurd (omega arith)
+    go : (v : Bool) → head ≡ cond v 12 8 → (8 ≤ length (take (at + head - at) (drop at s))) × (length (take (at + head - at) (drop at s)) ≤ 12)
+    go true q = rw (add-sub_cancel_left at head, length-take, length-drop at s) (omega arith, omega arith)
+    go false q = rw (add-sub_cancel_left at head, length-take, length-drop at s) (omega arith, omega arith)
 
 alone_length : (h : List ℕ) → length (alone h) ≡ length h
 unfolding alone
@@ -76,31 +71,27 @@ stored (_ ∷ _ ∷ _ ∷ _ ∷ _ ∷ _ ∷ _ ∷ []) b k = absurd (omega arith)
 pub copy_room : (t : List ℕ) {h : List ℕ} {m : ℕ} → h ≡ head_part t → failed_size (length (head_part t)) ≤ m → failed_size (length h) ≤ m
 copy_room t e r = rw e r
 
-module _ (t h : List ℕ) (eh : h ≡ head_part t) {b x : List ℕ} {r : ℕ} (p : Wrote (failed h) b x r) where
-  pub store_room : (n : ℕ) → 0 < n → n ≡ length h → failed_size (length (head_part t)) ≤ length b → 13 + 3 ≤ length x
-  store_room n there own room =
-      let k : 8 ≤ length h = rw eh (head_long t (rw (← eh) (omega arith))) in
+module _ (t h : List ℕ) (eh : h ≡ head_part t) (whole : 8 ≤ length h) {b x : List ℕ} {r : ℕ} (p : Wrote (failed h) b x r) where
+  pub store_room : failed_size (length (head_part t)) ≤ length b → 13 + 3 ≤ length x
+  store_room room =
       let l : length x ≡ length b = rw p.bytes (over_length (failed h) b (rw (failed_length h, eh) room)) in
       rw l (omega (arith, rw (← eh) at room))
 
-  pub wrote_alone : {y : List ℕ} (n : ℕ) → 0 < n → n ≡ length h → length h ≤ 12 → y ≡ put_be24 x 13 n → Wrote (failed (alone (head_part t))) b y r
+  pub wrote_alone : {y : List ℕ} → length h ≤ 12 → y ≡ put_be24 x 13 (length h) → Wrote (failed (alone (head_part t))) b y r
   unfolding put_be24
-  wrote_alone n there own short put =
-      let k : 8 ≤ length h = rw eh (head_long t (rw (← eh) (omega arith))) in
-      let a : n / 65536 % 256 ≡ 0 = omega arith in
-      let b : n / 256 % 256 ≡ 0 = omega arith in
-      let c : n % 256 ≡ length h = omega arith in
+  wrote_alone short put =
+      let a : length h / 65536 % 256 ≡ 0 = omega arith in
+      let b : length h / 256 % 256 ≡ 0 = omega arith in
+      let c : length h % 256 ≡ length h = omega arith in
       rw (← eh)
       (record {
         count = p.count ∙ (failed_length h ∙ (ap failed_size (sym (alone_length h)) ∙ sym (failed_length (alone h))));
-        bytes = rw (put, p.bytes, a, b, c) (stored h _ k);
+        bytes = rw (put, p.bytes, a, b, c) (stored h _ whole);
       })
 
-  pub wrote_none : (n : ℕ) → n ≤ 0 → n ≡ length h → Wrote (failed (alone (head_part t))) b x r
-  unfolding alone
-  wrote_none n none own =
-      let e : h ≡ [] = nothing h (omega arith) in
-      rw (← eh, e) (rw e at p)
+pub wrote_none : (t : List ℕ) {b x : List ℕ} {r : ℕ} → head_part t ≡ [] → Wrote (failed []) b x r → Wrote (failed (alone (head_part t))) b x r
+unfolding alone
+wrote_none t e p = rw e p
 
 -- For B5014 the header alone; else the AVP.
 module _ (n : ℕ) (t : List ℕ) (is : n ≡ 5014) where

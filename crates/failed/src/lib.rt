@@ -1,13 +1,13 @@
 #![tactic(auto)]
 // Failed-AVP: the faulty AVP of a request, its header alone, or an example of one that is missing.
-ghost use Rattle.std.specs.Prelude.{◌≡◌, ◌+◌, ◌*◌, ◌≤◌, ◌<◌, length, take, drop};
+ghost use Rattle.std.specs.Prelude.{◌≡◌, ◌+◌, ◌*◌, ◌≤◌, ◌<◌, [], length, take, drop, MatchOption};
 ghost use Rattle.octets.specs.Run.{Wrote};
 ghost use Rattle.diameter.specs.Avp.{avp_len};
 ghost use Rattle.pen.specs.Groups.{failed, failed_size};
 ghost use Rattle.failed.specs.Failing.{head_part, alone, failed_of, is_four, example_size, sample, example};
 
 use diameter::codes;
-use octets::{name, number};
+use octets::number;
 use pen::group;
 use reading::{Content, base, kinds};
 
@@ -27,25 +27,26 @@ fn whole(s: &[u8], at: usize) -> &[u8]
     ensures { result.now ≡ take (avp_len (drop at s.now)) (drop at s.now) }
 {
     if s.len() <= at {
-        return &s[..0];
+        return &[];
     }
     let n = length_at(s, at);
-    let to = name::smaller(at + n, s.len());
+    let to = (at + n).min(s.len());
     &s[at..to]
 }
 
-// The header of the AVP at a place, nothing if it is cut off.
-fn header(s: &[u8], at: usize) -> &[u8]
-    ensures { (result.now ≡ head_part (drop at s.now)) × (length result.now ≤ 12) }
+// The header of the AVP at a place, unless it is cut off.
+fn header(s: &[u8], at: usize) -> Option<&[u8]>
+    ensures { MatchOption result (head_part (drop at s.now) ≡ [])
+        (λ h. (h.now ≡ head_part (drop at s.now)) × (8 ≤ length h.now) × (length h.now ≤ 12)) }
 {
     if s.len() <= at {
-        return &s[..0];
+        return None;
     }
     let head = diameter::head_size(octets::byte_or_zero(s, at + 4));
     if s.len() - at < head {
-        return &s[..0];
+        return None;
     }
-    &s[at..at + head]
+    Some(&s[at..at + head])
 }
 
 // Failed-AVP with the header alone of the AVP at a place, whose length is set to its own.
@@ -53,13 +54,14 @@ fn put_alone(out: &mut [u8], req: &[u8], at: usize) -> usize
     requires { failed_size (length (head_part (drop at req.now))) ≤ length out.old }
     ensures { Wrote (failed (alone (head_part (drop at req.now)))) out.old out.new result }
 {
-    let h = header(req, at);
-    let own = h.len();
-    let n = group::put_failed(out, h);
-    if 0 < own {
-        number::put_be24(out, 13, own);
+    match header(req, at) {
+        Some(h) => {
+            let n = group::put_failed(out, h);
+            number::put_be24(out, 13, h.len());
+            n
+        }
+        None => group::put_failed(out, &[]),
     }
-    n
 }
 
 // Failed-AVP with the faulty AVP at a place, or for B5014 its header.
@@ -77,12 +79,7 @@ pub fn put_faulty(out: &mut [u8], req: &[u8], at: usize, n: u32) -> usize
 fn is_four(c: Content) -> bool
     ensures { result ≡ is_four c }
 {
-    match c {
-        Content::Free => false,
-        Content::Number(_, _) => true,
-        Content::Sized(_, _) => false,
-        Content::Members(_) => false,
-    }
+    matches!(c, Content::Number(_, _))
 }
 
 // How many bytes of data an example has.
@@ -111,8 +108,7 @@ pub fn put_example(out: &mut [u8], k: usize) -> usize
     ensures { Wrote (failed (example k)) out.old out.new result }
 {
     let row = kinds::row_of(k);
-    let content = row.content;
-    let four = is_four(content);
+    let four = is_four(row.content);
     let n = 8 + put_sample(&mut out[8..], row.code, row.vendor, four);
     pen::put_head(out, codes::FAILED_AVP, pen::FLAGS, n);
     n

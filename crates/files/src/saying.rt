@@ -1,25 +1,11 @@
-// What is said of a failure, on standard error.
+// What is said: on standard output, and of a failure on standard error.
 use std::fmt::{Display, Formatter};
 use std::io::{Cursor, Write};
 use std::{fmt, io};
 
-// Bytes as they are written: text as it is, and any other byte by its number.
-#[derive(Clone, Copy)]
-struct Shown<'a>(&'a [u8]);
-
-impl Display for Shown<'_> {
-    fn fmt<W: fmt::Write>(&self, f: &mut Formatter<W>) -> fmt::Result {
-        for chunk in self.0.utf8_chunks() {
-            let rest = chunk.invalid().escape_ascii();
-            write!(f, "{}{rest}", chunk.valid())?;
-        }
-        Ok(())
-    }
-}
-
 // The words of an error.
 #[derive(Clone, Copy)]
-struct Reason<'a>(&'a io::Error);
+pub struct Reason<'a>(pub &'a io::Error);
 
 impl Display for Reason<'_> {
     fn fmt<W: fmt::Write>(&self, f: &mut Formatter<W>) -> fmt::Result {
@@ -38,18 +24,18 @@ fn front(space: &[u8], n: usize) -> &str {
 
 // What stands before the number of an error.
 fn words(text: &str) -> &str {
-    match text.split_once(" (os error ") {
-        Some((before, _)) => before,
-        None => text,
+    text.split_once(" (os error ")
+        .map_or(text, |(before, _)| before)
+}
+
+// A line on standard error: what failed, as the caller names it, and why.
+pub fn fail(rt: &impl Eprint, what: &str, why: &impl Display) {
+    let _ = eprintln!(rt; "{what}: {why}");
+}
+
+// Writes to standard output.
+pub fn say(rt: &(impl Print + Eprint), text: &[u8]) {
+    if let Err(error) = rt.write_all(text) {
+        fail(rt, "standard output", &Reason(&error));
     }
-}
-
-// A line on standard error: what it is about, and what is said of that.
-pub fn say(rt: &impl Eprint, what: &[u8], words: &[u8]) {
-    let _ = eprintln!(rt; "{}: {}", Shown(what), Shown(words));
-}
-
-// Says on standard error what failed, as the caller names it, and why.
-pub fn fail(rt: &impl Eprint, what: &[u8], error: &io::Error) {
-    let _ = eprintln!(rt; "{}: {}", Shown(what), Reason(error));
 }

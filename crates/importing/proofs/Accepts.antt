@@ -1,4 +1,5 @@
 -- A list that has no wrong line: the table that it says is one that export can list, and this is its list.
+use Rattle.std.specs.Prelude.{Ok}
 use Rattle.octets.specs.Standard.{ℕ, zero, suc, ◌+◌, ◌*◌, ◌<◌, ◌≤◌, true, ◌≡◌, refl, sym, ◌∙◌, ap, arith}
 use Rattle.octets.specs.Standard.{eqb, eqb-true, List, [], ◌∷◌, ◌++◌, append_assoc, append-nil, length}
 use Rattle.octets.specs.Standard.{take, drop, get_or, length-replicate, take-append-drop, drop-drop, drop_of_length-le, Option, none}
@@ -11,7 +12,6 @@ use Rattle.record.specs.HeaderBlock.{header_of, sound_header}
 use Rattle.record.specs.RecordBlock.{record_of, sound_record}
 use Rattle.record.proofs.Tests.{RecordTests, record_says}
 use Rattle.blocks.specs.Blocks.{block_of}
-use Rattle.blocks.specs.declared.Checked.TheVariants.{Sound}
 use Rattle.blocks.proofs.Blocks.{table_length, table_block}
 use Rattle.blocks.proofs.First.{all_good}
 use Rattle.table.specs.Check.{check_table, sound_at, stands_at, rises_at, agrees_at}
@@ -142,7 +142,7 @@ module _ (list header : List ℕ) (fit : FitHeader header) where
 
   -- all lines
   module _ (file : ℕ) (each : (k : ℕ) → 1 ≤ k → k ≤ count → sound_at said (header_of header) file k ≡ true) (title : is_titled list ≡ true) where
-    pub checked : check_table said file ≡ Sound count
+    pub checked : check_table said file ≡ Ok count
     unfolding header_of
     checked =
         table_holds said file count
@@ -153,7 +153,7 @@ module _ (list header : List ℕ) (fit : FitHeader header) where
           each = λ k a b. rw said_header (each k a b);
         })
 
-    pub listed : first_unlisted said count ≡ Sound count
+    pub listed : first_unlisted said count ≡ Ok count
     unfolding first_unlisted
     listed = all_good (listable_at said) count count 1 (λ k a b. pick k a (omega arith))
       where

@@ -3,7 +3,7 @@ use Rattle.octets.specs.Standard.{ℕ, zero, suc, ◌+◌, ◌-◌, ◌*◌, ◌
 use Rattle.octets.specs.Standard.{ltb-false, leb-true, List, [], ◌∷◌, length}
 use native.Mathlib.Nat.{mul-le-mul_right, suc-mul}
 use Rattle.octets.specs.Name.{order_of}
-use Rattle.octets.specs.declared.name.Order.TheVariants.{Less, Greater}
+use Rattle.std.specs.declared.cmp.Ordering.TheVariants.{Less, Greater}
 use Rattle.octets.proofs.All.{and_left, and_right}
 use Rattle.octets.proofs.Names.{never}
 use Rattle.quoting.specs.Quoted.{is_listed, listable}

@@ -1,4 +1,5 @@
 -- A table that export can list: its list says it, and no line of it is wrong.
+use Rattle.std.specs.Prelude.{Ok}
 use Rattle.octets.specs.Standard.{ℕ, zero, suc, ◌+◌, ◌-◌, ◌<◌, ◌≤◌, true, ◌&&◌, ◌≡◌, refl, sym, ◌∙◌, ap, arith}
 use Rattle.octets.specs.Standard.{le-leb, eq-eqb, List, [], ◌++◌, append_assoc, append-nil, length, length-append, take, drop}
 use Rattle.octets.specs.Standard.{length-take, take_at, drop_at, some}
@@ -11,7 +12,6 @@ use Rattle.record.specs.HeaderBlock.{header_of}
 use Rattle.record.specs.RecordBlock.{record_of, sound_record}
 use Rattle.record.proofs.Tests.{Limits}
 use Rattle.blocks.specs.Blocks.{block_of, first_bad}
-use Rattle.blocks.specs.declared.Checked.TheVariants.{Sound}
 use Rattle.blocks.proofs.Blocks.{table_is, table_same, block_length, block_bytes}
 use Rattle.blocks.proofs.First.{all_good, good_each}
 use Rattle.table.specs.Check.{check_table, sound_at}
@@ -33,10 +33,10 @@ use Rattle.importing.proofs.Falling.{above_less}
 pub record Exportable (header : List ℕ) (file : ℕ) (t : List ℕ) : Type 0 where
   pub bytes : Bytes t
   pub count : ℕ
-  pub checked : check_table t file ≡ Sound count
+  pub checked : check_table t file ≡ Ok count
   pub header_block : block_of t 0 ≡ header
   pub edition : edition_of header ≡ 2
-  pub listed : first_unlisted t count ≡ Sound count
+  pub listed : first_unlisted t count ≡ Ok count
 
 -- The lines behind the first n.
 unfoldable pub more : List ℕ → ℕ → ℕ → List ℕ
@@ -181,10 +181,10 @@ module _ (header : List ℕ) (file : ℕ) (t : List ℕ) (x : Exportable header 
       ap (take (length first_line)) (list_is t count sound) ∙ take_at first_line (lines_of t count) (length first_line) refl in
       rw e (same_refl first_line)
 
-  pub whole : first_wrong (list_of t) header file ≡ Sound count
+  pub whole : first_wrong (list_of t) header file ≡ Ok count
   unfolding first_wrong
   whole =
-      let f : first_bad (holds_at (list_of t) header file) count count 1 ≡ Sound count =
+      let f : first_bad (holds_at (list_of t) header file) count count 1 ≡ Ok count =
       all_good (holds_at (list_of t) header file) count count 1 (λ j a b. holds j a (omega arith)) in
       let e : place_of (list_of t) count ≡ length (list_of t) = own_place count (omega arith) ∙ ap length (sym (list_is t count sound)) in
       rw (titled, counted, f, eq-eqb (place_of (list_of t) count) (length (list_of t)) e)

@@ -1,4 +1,5 @@
 -- The page of import: it accepts exactly what export can write, and gives back the table's bytes.
+use Rattle.std.specs.Prelude.{Result, Ok, Err}
 use Rattle.octets.specs.Standard.{ℕ, zero, suc, ◌+◌, ◌≤◌, Bool, true, false, cond, ◌≡◌, refl, arith, eqb, eq-eqb, eqb-true}
 use Rattle.octets.specs.Standard.{List, length, drop, Option, none, some}
 use Rattle.octets.proofs.All.{and_left}
@@ -7,8 +8,6 @@ use Rattle.octets.proofs.Numbers.{Bytes}
 use Rattle.record.specs.Fields.{count_of, issue_of, edition_of}
 use Rattle.record.specs.HeaderBlock.{header_of}
 use Rattle.blocks.specs.Blocks.{table_of, first_bad}
-use Rattle.blocks.specs.declared.Checked.{Checked}
-use Rattle.blocks.specs.declared.Checked.TheVariants.{Sound, Bad}
 use Rattle.blocks.proofs.First.{good_each, good_count, bad_sound}
 use Rattle.table.specs.Check.{sound_at}
 use Rattle.table.proofs.Sound.{TableTests, table_says}
@@ -65,7 +64,7 @@ module _ (list header : List ℕ) (file : ℕ) (bytes : Bytes header) (fit : fit
     pub exportable : Exportable header file table
     pub list_is : list_of table ≡ list
 
-  pub accepts_only : (c : ℕ) → first_wrong list header file ≡ Sound c → AnExport
+  pub accepts_only : (c : ℕ) → first_wrong list header file ≡ Ok c → AnExport
   unfolding first_wrong table_said holds_at
   accepts_only c e = titled (is_titled list) refl e
     where
@@ -75,7 +74,7 @@ module _ (list header : List ℕ) (file : ℕ) (bytes : Bytes header) (fit : fit
       count : ℕ
       count = count_of header
 
-      built : is_titled list ≡ true → first_bad good count count 1 ≡ Sound count → place_of list count ≡ length list → AnExport
+      built : is_titled list ≡ true → first_bad good count count 1 ≡ Ok count → place_of list count ≡ length list → AnExport
       built t f p =
           let each : (k : ℕ) → 1 ≤ k → k ≤ count → sound_at said (header_of header) file k ≡ true = sounds f in
           record {
@@ -91,20 +90,20 @@ module _ (list header : List ℕ) (file : ℕ) (bytes : Bytes header) (fit : fit
             list_is = accepts.list_said list header is_fit file each t p;
           }
         where
-          sounds : first_bad good count count 1 ≡ Sound count → (k : ℕ) → 1 ≤ k → k ≤ count → sound_at said (header_of header) file k ≡ true
+          sounds : first_bad good count count 1 ≡ Ok count → (k : ℕ) → 1 ≤ k → k ≤ count → sound_at said (header_of header) file k ≡ true
           sounds f k a b =
               and_left (sound_at said (header_of header) file k) (enough_at said count k) (good_each good count count count 1 f k a (omega arith))
 
-      past : is_titled list ≡ true → (r : Checked) → first_bad good count count 1 ≡ r → over_records list r ≡ Sound c → AnExport
-      past t (Bad k) f g = bad_sound (Bad k) k c refl g
-      past t (Sound n) f g = ended (eqb (place_of list n) (length list)) refl g
+      past : is_titled list ≡ true → (r : Result ℕ ℕ) → first_bad good count count 1 ≡ r → over_records list r ≡ Ok c → AnExport
+      past t (Err k) f g = bad_sound (Err k) k c refl g
+      past t (Ok n) f g = ended (eqb (place_of list n) (length list)) refl g
         where
-          ended : (y : Bool) → eqb (place_of list n) (length list) ≡ y → cond y (Sound n) (Bad (n + 1)) ≡ Sound c → AnExport
-          ended false p q = bad_sound (Bad (n + 1)) (n + 1) c refl q
+          ended : (y : Bool) → eqb (place_of list n) (length list) ≡ y → cond y (Ok n) (Err (n + 1)) ≡ Ok c → AnExport
+          ended false p q = bad_sound (Err (n + 1)) (n + 1) c refl q
           ended true p q =
               let m : count ≡ n = good_count good count n count 1 f in
               built t (rw (← m) at f) (rw (← m) at (eqb-true (place_of list n) (length list) p))
 
-      titled : (y : Bool) → is_titled list ≡ y → cond y (over_records list (first_bad good count count 1)) (Bad 0) ≡ Sound c → AnExport
-      titled false t f = bad_sound (Bad 0) 0 c refl f
+      titled : (y : Bool) → is_titled list ≡ y → cond y (over_records list (first_bad good count count 1)) (Err 0) ≡ Ok c → AnExport
+      titled false t f = bad_sound (Err 0) 0 c refl f
       titled true t f = past t (first_bad good count count 1) refl f

@@ -3,7 +3,7 @@ use Rattle.octets.specs.Standard.{ℕ, zero, suc, ◌+◌, ◌-◌, ◌*◌, ◌
 use Rattle.octets.specs.Standard.{ltb-false, lt-ltb, le-ltb, le-leb, List, [], ◌∷◌, length}
 use native.Mathlib.Nat.{suc-mul}
 use Rattle.octets.specs.Name.{order_of}
-use Rattle.octets.specs.declared.name.Order.TheVariants.{Less}
+use Rattle.std.specs.declared.cmp.Ordering.TheVariants.{Less}
 use Rattle.quoting.specs.Quoted.{listable}
 use Rattle.importing.specs.Above.{strings_of, above}
 use Rattle.importing.proofs.Falling.{strings_some, least, others}

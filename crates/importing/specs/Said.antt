@@ -1,11 +1,9 @@
 -- The table that a list says under a header block, line by line.
-use Rattle.std.specs.Prelude.{ℕ, zero, suc, ◌+◌, ◌-◌, Bool, ◌&&◌, cond, List, eqb, leb, length, take, drop}
+use Rattle.std.specs.Prelude.{ℕ, zero, suc, ◌+◌, ◌-◌, Bool, ◌&&◌, cond, List, eqb, leb, length, take, drop, Result, Ok, Err}
 use Rattle.octets.specs.Name.{same}
 use Rattle.record.specs.Fields.{count_of, issue_of}
 use Rattle.record.specs.HeaderBlock.{header_of}
 use Rattle.blocks.specs.Blocks.{table_of, first_bad}
-use Rattle.blocks.specs.declared.Checked.{Checked}
-use Rattle.blocks.specs.declared.Checked.TheVariants.{Sound, Bad}
 use Rattle.table.specs.Check.{sound_at}
 use Rattle.table.specs.Named.{public_at}
 use Rattle.rows.specs.RowIn.{row_in, row_size}
@@ -39,11 +37,11 @@ unfoldable pub is_titled : List ℕ → Bool
 is_titled list = same (take (length first_line) list) first_line
 
 -- nothing stands behind the last record's line
-abbrev pub over_records : List ℕ → Checked → Checked
-over_records list (Sound count) = cond (eqb (place_of list count) (length list)) (Sound count) (Bad (count + 1))
-over_records list (Bad k) = Bad k
+abbrev pub over_records : List ℕ → Result ℕ ℕ → Result ℕ ℕ
+over_records list (Ok count) = cond (eqb (place_of list count) (length list)) (Ok count) (Err (count + 1))
+over_records list (Err k) = Err k
 
 -- the number of the first line that no export could hold there, less one; the count of records where there is none
-unfoldable pub first_wrong : List ℕ → List ℕ → ℕ → Checked
+unfoldable pub first_wrong : List ℕ → List ℕ → ℕ → Result ℕ ℕ
 first_wrong list header file =
-    cond (is_titled list) (over_records list (first_bad (holds_at list header file) (count_of header) (count_of header) 1)) (Bad 0)
+    cond (is_titled list) (over_records list (first_bad (holds_at list header file) (count_of header) (count_of header) 1)) (Err 0)

@@ -14,11 +14,8 @@ const HIGH: usize = 126;
 fn tildes(name: &[u8]) -> bool
     ensures { result ≡ tildes 126 name.now }
 {
-    let mut i = 0;
-    while i < HIGH {
-        if octets::byte_or_zero(name, i) == TILDE {
-            i += 1;
-        } else {
+    for i in 0..HIGH {
+        if octets::byte_or_zero(name, i) != TILDE {
             return false;
         }
     }

@@ -1,7 +1,7 @@
 -- An area that is longer than its table: behind the two records stand a stale record of the first subscription and a last piece. They stay, and do not matter.
+use Rattle.std.specs.Prelude.{Ok}
 use Rattle.octets.specs.Standard.{ℕ, ◌≡◌, refl, sym, ap, ◌∙◌, List, [], ◌∷◌, ◌++◌, true, inl, length, get_or, take, drop, drop_at, lit<}
 use Rattle.blocks.specs.Blocks.{block_of}
-use Rattle.blocks.specs.declared.Checked.TheVariants.{Sound}
 use Rattle.table.specs.Area.{size_in, table_in, check_area}
 use Rattle.table.specs.Check.{check_table}
 use Rattle.table.proofs.Areas.{read_front, sound_size_in}
@@ -30,7 +30,7 @@ table_in_lem : table_in area ≡ table
 unfolding area
 table_in_lem = read_front table behind (sound_size_in table 0 2 sound_table)
 
-area_sound : check_area area 0 ≡ Sound 2
+area_sound : check_area area 0 ≡ Ok 2
 unfolding check_area
 area_sound = ap (λ (t : List ℕ). check_table t 0) table_in_lem ∙ sound_table
 
@@ -69,7 +69,7 @@ met_2_bytes = demand_2_bytes (working (sar s 5)) 2 area_sound 3 144 (lit< tt) re
 met_2_size : length (serve (working (sar s 5))).table ≡ length area
 met_2_size = demand_2_size (working (sar s 5))
 
-met_2_sound : check_area (serve (working (sar s 5))).table 0 ≡ Sound 2
+met_2_sound : check_area (serve (working (sar s 5))).table 0 ≡ Ok 2
 met_2_sound = demand_2_sound (working (sar s 5)) 2 area_sound
 
 met_past : drop (length (table_in area)) (serve (working (sar s 5))).table ≡ behind

@@ -1,8 +1,8 @@
 -- What the instances are of: a table of two subscriptions, a file of two vectors, a SAR and a MAR as rows of AVPs, and what is put into them.
+use Rattle.std.specs.Prelude.{Ok}
 use Rattle.octets.specs.Standard.{ℕ, ◌+◌, ◌≡◌, ◌∙◌, List, [], ◌∷◌, ◌++◌, Bool, true, ◌&&◌, length, eqb, eqb-true}
 use Rattle.octets.proofs.All.{and_left, and_right}
 use Rattle.octets.specs.Run.{over}
-use Rattle.blocks.specs.declared.Checked.TheVariants.{Sound}
 use Rattle.table.specs.Area.{check_area}
 use Rattle.table.proofs.Areas.{check_exact, sound_size_in}
 use Rattle.diameter.specs.Avp.{padded, avp_len, sound}
@@ -123,8 +123,8 @@ unfolding opened table removed vectors base vendor head_of head mar_head session
 all = 0
 
 -- A sound table lent alone is an area that checks so, and what holds over it holds over the table at the front of it.
-module _ (x : Lent) (count : ℕ) (sound : check_of x ≡ Sound count) where
-  pub area_sound : check_area x.table (length x.profile) ≡ Sound count
+module _ (x : Lent) (count : ℕ) (sound : check_of x ≡ Ok count) where
+  pub area_sound : check_area x.table (length x.profile) ≡ Ok count
   area_sound = check_exact x.table (length x.profile) (sound_size_in x.table (length x.profile) count sound) ∙ sound
 
   pub of_area : (P : Lent → Type 0) → P x → P (table_only x)

@@ -1,9 +1,8 @@
 -- The promise, the checks, demands 1 and 2: their hypotheses can be met by a SAR, computed.
+use Rattle.std.specs.Prelude.{Result, Ok, Err}
 use Rattle.octets.specs.Standard.{ℕ, ◌/◌, ◌≤◌, ◌≡◌, refl, sym, ap, ◌∙◌, List, [], ◌∷◌, ◌++◌, some, some-injective, true, false, inr, ◌≢◌, arith, ◌⊎◌}
 use Rattle.octets.specs.Standard.{length, get_or, take, drop, eqb, lit<}
 use Rattle.blocks.specs.Blocks.{block_of}
-use Rattle.blocks.specs.declared.Checked.{Checked}
-use Rattle.blocks.specs.declared.Checked.TheVariants.{Sound, Bad}
 use Rattle.table.specs.Area.{size_in, table_in, check_area}
 use Rattle.table.specs.Check.{check_table}
 use Rattle.table.specs.Named.{private_at}
@@ -32,15 +31,15 @@ use Rattle.instances.proofs.Asked.{table, twice, removed, vectors, cut_off, shor
 use Rattle.instances.proofs.Asked.{area_sound, of_area}
 
 -- the table is sound; the SAR is a success, which rewrites record 1 alone
-pub sound_table : check_table table 0 ≡ Sound 2
+pub sound_table : check_table table 0 ≡ Ok 2
 unfolding all
 sound_table = refl
 
-pub sound_vectors : check_vectors vectors ≡ Sound 2
+pub sound_vectors : check_vectors vectors ≡ Ok 2
 unfolding all
 sound_vectors = refl
 
-pub sound_empty : check_table (header 0 0) 0 ≡ Sound 0
+pub sound_empty : check_table (header 0 0) 0 ≡ Ok 0
 unfolding all
 sound_empty = refl
 
@@ -52,7 +51,7 @@ taken : turned_away (table_only (asked (sar s 5))) ≡ false
 unfolding all
 taken = of_area (asked (sar s 5)) 2 sound_table (λ y. turned_away y ≡ false) (held (asked (sar s 5)) roomy sound_table no_vectors refl)
 
-pub sound_area : check_area table 0 ≡ Sound 2
+pub sound_area : check_area table 0 ≡ Ok 2
 sound_area = area_sound (asked []) 2 sound_table
 
 -- the same call, over the area that the table fills; it says 116 bytes, and the word that is promised says the same
@@ -80,7 +79,7 @@ met_promised_exact : serve (asked (sar s 5)) ≡ serve_table (asked (sar s 5))
 met_promised_exact = promised_exact (asked (sar s 5)) (sound_size_in table 0 2 sound_table)
 
 -- of the table's check: 2 records, and block 2 where two have one public identity
-twice_bad : check_table twice 0 ≡ Bad 2
+twice_bad : check_table twice 0 ≡ Err 2
 unfolding all twice
 twice_bad = refl
 
@@ -88,30 +87,30 @@ twice_exact : length twice ≡ size_in twice
 unfolding all twice size_in
 twice_exact = refl
 
-reads_table : (t : List ℕ) (c : Checked) → length t ≡ size_in t → check_table t 0 ≡ c → ReadsCheck 5 c (check_word 5 c)
+reads_table : (t : List ℕ) (c : Result ℕ ℕ) → length t ≡ size_in t → check_table t 0 ≡ c → ReadsCheck 5 c (check_word 5 c)
 reads_table t c l e =
     let f : check_area t 0 ≡ c = check_exact t 0 l ∙ e in
     rw f at (checked t [] {r = check_word 5 (check_area t 0)} (record { answer = refl }))
 
-met_checked : ReadsCheck 5 (Sound 2) 2
-met_checked = reads_table table (Sound 2) (sound_size_in table 0 2 sound_table) sound_table
+met_checked : ReadsCheck 5 (Ok 2) 2
+met_checked = reads_table table (Ok 2) (sound_size_in table 0 2 sound_table) sound_table
 
-met_checked_bad : ReadsCheck 5 (Bad 2) (word 5 0 2)
-met_checked_bad = reads_table twice (Bad 2) twice_exact twice_bad
+met_checked_bad : ReadsCheck 5 (Err 2) (word 5 0 2)
+met_checked_bad = reads_table twice (Err 2) twice_exact twice_bad
 
 -- of the vector file's: 2 blocks, and block 1 where it is cut off
-reads_vectors : (v : List ℕ) (c : Checked) → check_vectors v ≡ c → ReadsCheck 6 c (check_word 6 c)
+reads_vectors : (v : List ℕ) (c : Result ℕ ℕ) → check_vectors v ≡ c → ReadsCheck 6 c (check_word 6 c)
 reads_vectors v c e = rw e at (checked_vectors v {r = check_word 6 (check_vectors v)} (record { answer = refl }))
 
-cut_off_bad : check_vectors cut_off ≡ Bad 1
+cut_off_bad : check_vectors cut_off ≡ Err 1
 unfolding all cut_off
 cut_off_bad = refl
 
-met_checked_vectors : ReadsCheck 6 (Sound 2) 2
-met_checked_vectors = reads_vectors vectors (Sound 2) sound_vectors
+met_checked_vectors : ReadsCheck 6 (Ok 2) 2
+met_checked_vectors = reads_vectors vectors (Ok 2) sound_vectors
 
-met_checked_cut : ReadsCheck 6 (Bad 1) (word 6 0 1)
-met_checked_cut = reads_vectors cut_off (Bad 1) cut_off_bad
+met_checked_cut : ReadsCheck 6 (Err 1) (word 6 0 1)
+met_checked_cut = reads_vectors cut_off (Err 1) cut_off_bad
 
 -- DEMAND 1: a request of 19 bytes is refusal 2, the third trial; the SAR is number 0 with the answer's length; two records of one public identity are
 -- refusal 5; a vector file that has no whole block is refusal 6, which comes after 5
@@ -158,9 +157,9 @@ doubled_refused : (serve doubled).call ≡ Refused 5 2
 unfolding all doubled
 doubled_refused =
     ap (λ (y : Served). y.call)
-    (promised_exact doubled twice_exact ∙ come doubled {y = known false (Bad 2) (Sound 0) doubled} roomy twice_bad no_vectors refl)
+    (promised_exact doubled twice_exact ∙ come doubled {y = known false (Err 2) (Ok 0) doubled} roomy twice_bad no_vectors refl)
 
-met_1_block : check_area twice 0 ≡ Bad 2
+met_1_block : check_area twice 0 ≡ Err 2
 unfolding doubled
 met_1_block = demand_1_block doubled 2 doubled_refused
 
@@ -168,11 +167,11 @@ met_1_block = demand_1_block doubled 2 doubled_refused
 spoilt : Lent
 spoilt = lent (sar s 5) (header 0 0) [] short room (under_cx 3588 0)
 
-short_bad : check_vectors short ≡ Bad 0
+short_bad : check_vectors short ≡ Err 0
 unfolding all short
 short_bad = refl
 
-spoilt_sound : check_of spoilt ≡ Sound 0
+spoilt_sound : check_of spoilt ≡ Ok 0
 unfolding spoilt
 spoilt_sound = sound_empty
 
@@ -185,7 +184,7 @@ spoilt_refused : (serve spoilt).call ≡ Refused 6 0
 unfolding all spoilt
 spoilt_refused =
     ap (λ (y : Served). y.call)
-    (serve_sound spoilt 0 spoilt_sound ∙ come spoilt {y = known false (Sound 0) (Bad 0) spoilt} roomy sound_empty short_bad refl)
+    (serve_sound spoilt 0 spoilt_sound ∙ come spoilt {y = known false (Ok 0) (Err 0) spoilt} roomy sound_empty short_bad refl)
 
 met_1_sixth_none : ◌≡◌ {A = ℕ} 0 0
 met_1_sixth_none = demand_1_none spoilt 6 0 spoilt_refused (λ e. omega arith)
@@ -227,7 +226,7 @@ met_2_bits = demand_2_bits (asked (sar s 5)) 2 sound_area 1
 met_2_size : length (serve (asked (sar s 5))).table ≡ length table
 met_2_size = demand_2_size (asked (sar s 5))
 
-met_2_sound : check_area (serve (asked (sar s 5))).table 0 ≡ Sound 2
+met_2_sound : check_area (serve (asked (sar s 5))).table 0 ≡ Ok 2
 met_2_sound = demand_2_sound (asked (sar s 5)) 2 sound_area
 
 met_2_room : length (serve (asked (sar s 5))).buffer ≡ length room

@@ -1,7 +1,7 @@
 -- Demands 2 and 3 over the vectors: their hypotheses can be met by a MAR, computed.
+use Rattle.std.specs.Prelude.{Ok}
 use Rattle.octets.specs.Standard.{ℕ, ◌≡◌, refl, ap, ◌∙◌, List, [], ◌∷◌, ◌++◌, false, some, some-injective, inr, ◌≢◌, arith, get_or, lit≤, lit<}
 use Rattle.blocks.specs.Blocks.{block_of}
-use Rattle.blocks.specs.declared.Checked.TheVariants.{Sound}
 use Rattle.table.specs.Area.{size_in, table_in, check_area}
 use Rattle.table.specs.Named.{private_at}
 use Rattle.diameter.specs.Put.{Piece}
@@ -57,7 +57,7 @@ met_2_neighbour =
 met_2_identity : get_or (block_of (serve (carded (mar z 2))).table 1) 144 0 ≡ get_or (block_of table 1) 144 0
 met_2_identity = demand_2_bytes (carded (mar z 2)) 2 sound_area 1 144 (lit< tt) refl
 
-met_2_challenged : check_area (serve (carded (mar z 2))).table 0 ≡ Sound 2
+met_2_challenged : check_area (serve (carded (mar z 2))).table 0 ≡ Ok 2
 met_2_challenged = demand_2_sound (carded (mar z 2)) 2 sound_area
 
 -- none asked is B5012, which marks no vector; nor does the SAR

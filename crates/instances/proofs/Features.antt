@@ -1,7 +1,7 @@
 -- Supported-Features: the removal with one, by a server that supports bits 0 and 2; the theorems of its page at it, computed.
+use Rattle.std.specs.Prelude.{Ok}
 use Rattle.octets.specs.Standard.{ℕ, ◌≤◌, ◌≡◌, refl, sym, ap, ◌∙◌, ◌≢◌, inr, List, [], ◌∷◌, ◌++◌, some, length, set, false, true≢false, arith, lit≤}
 use Rattle.octets.specs.Standard.{lit<}
-use Rattle.blocks.specs.declared.Checked.TheVariants.{Sound}
 use Rattle.diameter.specs.AvpAt.{avp_at}
 use Rattle.diameter.specs.Message.{body_of}
 use Rattle.diameter.specs.Put.{Piece}
@@ -53,7 +53,7 @@ abbrev seen_in : Judged → Seen
 seen_in (bad v) = []
 seen_in (fine seen) = seen
 
-let_pass : (req : List ℕ) → any_holds (known_trials false (Sound 2) (Sound 0) (asked req)) ≡ false → turned_away (table_only (asked req)) ≡ false
+let_pass : (req : List ℕ) → any_holds (known_trials false (Ok 2) (Ok 0) (asked req)) ≡ false → turned_away (table_only (asked req)) ≡ false
 let_pass req e = of_area (asked req) 2 sound_table (λ y. turned_away y ≡ false) (held (asked req) roomy sound_table no_vectors e)
 
 -- WITH M: X5011

@@ -1,10 +1,10 @@
 -- Demand 3: its hypotheses can be met by a SAR and what is put into it, computed.
+use Rattle.std.specs.Prelude.{Ok}
 use Rattle.octets.specs.Standard.{ℕ, ◌≡◌, refl, ap, ◌∙◌, true, false, List, [], ◌∷◌, ◌++◌, Option, none, ◌⊎◌, lit≤}
 use Rattle.octets.proofs.Numbers.{all_bytes, are_bytes}
 use Rattle.diameter.specs.Put.{Piece}
 use Rattle.pen.specs.Bytes.{word_bytes, head_bytes, vendor_head, number_bytes}
 use Rattle.pen.specs.Groups.{failed}
-use Rattle.blocks.specs.declared.Checked.TheVariants.{Sound}
 use Rattle.table.specs.Area.{size_in, table_in}
 use Rattle.calling.specs.Lent.{Lent, table_only}
 use Rattle.calling.specs.Serve.{Served, serve}
@@ -106,7 +106,7 @@ met_3_cases : Inserted (Quiet (dialect_of (under_cx 3588 0) head)) common (plain
 met_3_cases = demand_3_cases (dialect_of (under_cx 3588 0) head) common (plain ∷ common) (put plain foreign_plain (kept common))
 
 -- a request that no refusal holds of
-let_pass : (req : List ℕ) → any_holds (known_trials false (Sound 2) (Sound 0) (asked req)) ≡ false → turned_away (table_only (asked req)) ≡ false
+let_pass : (req : List ℕ) → any_holds (known_trials false (Ok 2) (Ok 0) (asked req)) ≡ false → turned_away (table_only (asked req)) ≡ false
 let_pass req e = of_area (asked req) 2 sound_table (λ y. turned_away y ≡ false) (held (asked req) roomy sound_table no_vectors e)
 
 unsupported_answer : ℕ → Served

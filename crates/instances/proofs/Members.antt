@@ -1,6 +1,6 @@
 -- "a removal naming two members of one set is like naming one" can be met: `a` and `c` share a set, `b` between them has none, and a removal names all three.
+use Rattle.std.specs.Prelude.{Ok}
 use Rattle.octets.specs.Standard.{ℕ, ◌≤◌, ◌≡◌, refl, ap, ◌∙◌, List, [], ◌∷◌, ◌++◌, length, lit≤, lit<}
-use Rattle.blocks.specs.declared.Checked.TheVariants.{Sound}
 use Rattle.table.specs.Area.{table_in}
 use Rattle.table.specs.Check.{check_table}
 use Rattle.diameter.specs.Put.{Piece, bytes_of}
@@ -45,7 +45,7 @@ three = named 0x61 ∷ named 0x62 ∷ named 0x63 ∷ []
 abbrev asked : List ℕ → Lent
 asked req = lent req (lines 1 s) [] [] room (under_cx 3588 0)
 
-lines_sound : check_table (lines 1 s) 0 ≡ Sound 3
+lines_sound : check_table (lines 1 s) 0 ≡ Ok 3
 unfolding all family.head family.line lines
 lines_sound = refl
 
@@ -103,7 +103,7 @@ c_member =
 only_lines : (req : List ℕ) → table_only (asked req) ≡ asked req
 only_lines req = only_sound (asked req) 3 lines_sound
 
-sound_lines : (req : List ℕ) → check_of (table_only (asked req)) ≡ Sound 3
+sound_lines : (req : List ℕ) → check_of (table_only (asked req)) ≡ Ok 3
 sound_lines req = ap check_of (only_lines req) ∙ lines_sound
 
 in_lines : table_in (lines 1 s) ≡ lines 1 s

@@ -1,13 +1,12 @@
 -- The word of a move is read back, and no answer shows a move: the hypotheses can be met by the table in both editions and the removal, computed.
+use Rattle.std.specs.Prelude.{Ok, Err}
 use Rattle.octets.specs.Standard.{ℕ, ◌≡◌, refl, sym, ap, ◌∙◌, List, [], ◌++◌, take, set, lit<}
 use Rattle.octets.specs.Run.{over}
-use Rattle.blocks.specs.declared.Checked.TheVariants.{Sound, Bad}
 use Rattle.table.specs.Check.{check_table}
 use Rattle.pen.specs.Bytes.{number_bytes}
 use Rattle.moving.specs.Moves.{moved, moved_all, no_set, first_set}
 use Rattle.moving.specs.Outcomes.{AfterMove, came, refusing, forward_sound, back_past, back_sound, forward_checked, back_checked, forward, back}
-use Rattle.moving.specs.declared.Move.{Move}
-use Rattle.moving.specs.declared.Move.TheVariants.{Moved, Refused}
+use Rattle.moving.specs.Outcomes.{Move, refused}
 use Rattle.calling.specs.Call.{Answered}
 use Rattle.calling.specs.Lent.{Lent, holding}
 use Rattle.calling.specs.Serve.{Served, SameCall, serve_table, serve}
@@ -33,15 +32,15 @@ unfoldable remaining : List ℕ
 remaining = later (header 2 0) ++ (later (person 1 0x61 0x70 0 []) ++ later (person 2 0x62 0x71 1 s))
 
 -- the moves, computed
-there : forward table 0 7 ≡ came (Moved 2) second
+there : forward table 0 7 ≡ came (Ok 2) second
 unfolding all later second moved moved_all forward_sound forward_checked forward
 there = ap (forward_checked table 7) sound_table
 
-sound_second : check_table second 0 ≡ Sound 2
+sound_second : check_table second 0 ≡ Ok 2
 unfolding all later second
 sound_second = refl
 
-again : back second 0 ≡ came (Moved 2) table
+again : back second 0 ≡ came (Ok 2) table
 unfolding all later second moved moved_all no_set first_set back_past back_sound back_checked back
 again = ap (back_checked second) sound_second
 
@@ -52,34 +51,34 @@ reads_forward m e = rw e at (moved_forward table [] 7 {t' = (forward table 0 7).
 reads_back : (t : List ℕ) (m : Move) → (back t 0).move ≡ m → ReadsMove m (move_word m)
 reads_back t m e = rw e at (moved_back t [] {t' = (back t 0).table} (record { word_is = refl; table_is = refl }))
 
-met_moved_forward : ReadsMove (Moved 2) 2
-met_moved_forward = reads_forward (Moved 2) (ap (λ (o : AfterMove). o.move) there)
+met_moved_forward : ReadsMove (Ok 2) 2
+met_moved_forward = reads_forward (Ok 2) (ap (λ (o : AfterMove). o.move) there)
 
-met_moved_back : ReadsMove (Moved 2) 2
-met_moved_back = reads_back second (Moved 2) (ap (λ (o : AfterMove). o.move) again)
+met_moved_back : ReadsMove (Ok 2) 2
+met_moved_back = reads_back second (Ok 2) (ap (λ (o : AfterMove). o.move) again)
 
 with_set : back (family.family 0 0 []) 0 ≡ refusing (family.family 0 0 []) 8 1
 unfolding all family.head family.line family.family no_set first_set back_past back_sound back_checked back
 with_set = ap (back_checked (family.family 0 0 [])) family.family_sound
 
-met_moved_refused : ReadsMove (Refused 8 1) (word 8 0 1)
-met_moved_refused = reads_back (family.family 0 0 []) (Refused 8 1) (ap (λ (o : AfterMove). o.move) with_set)
+met_moved_refused : ReadsMove (refused 8 1) (word 8 0 1)
+met_moved_refused = reads_back (family.family 0 0 []) (refused 8 1) (ap (λ (o : AfterMove). o.move) with_set)
 
 -- refusal 5: the other edition's table, block 0; and an unsound one, its bad block
-met_moved_other : ReadsMove (Refused 5 0) (word 5 0 0)
+met_moved_other : ReadsMove (refused 5 0) (word 5 0 0)
 unfolding all back_sound back_checked back
-met_moved_other = reads_back table (Refused 5 0) (ap (λ (o : AfterMove). o.move) (ap (back_checked table) sound_table))
+met_moved_other = reads_back table (refused 5 0) (ap (λ (o : AfterMove). o.move) (ap (back_checked table) sound_table))
 
 abbrev apart : List ℕ
 apart = family.pair 0x70 1 2 0 s
 
-bad_apart : check_table apart 0 ≡ Bad 2
+bad_apart : check_table apart 0 ≡ Err 2
 unfolding all family.head family.line family.pair
 bad_apart = refl
 
-met_moved_unsound : ReadsMove (Refused 5 2) (word 5 0 2)
+met_moved_unsound : ReadsMove (refused 5 2) (word 5 0 2)
 unfolding back_checked back
-met_moved_unsound = reads_back apart (Refused 5 2) (ap (λ (o : AfterMove). o.move) (ap (back_checked apart) bad_apart))
+met_moved_unsound = reads_back apart (refused 5 2) (ap (λ (o : AfterMove). o.move) (ap (back_checked apart) bad_apart))
 
 -- the removal, and the same over edition 2: its answer, computed, and the table afterwards, which keeps edition and issue number
 abbrev x : Lent

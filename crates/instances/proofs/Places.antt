@@ -1,4 +1,5 @@
 -- The place: the hypotheses of its theorems can be met, by SARs over a table of no record, computed.
+use Rattle.std.specs.Prelude.{Ok}
 use Rattle.octets.specs.Standard.{ℕ, ◌≤◌, ◌<◌, ◌≡◌, refl, sym, ap, ◌∙◌, true, false, List, [], ◌∷◌, ◌++◌, map, arith, length, take, set}
 use Rattle.diameter.specs.Put.{Piece}
 use Rattle.pen.specs.Bytes.{word_bytes, vendor_head, number_bytes}
@@ -9,7 +10,6 @@ use Rattle.requests.specs.Request.{dialect_of, under_cx}
 use Rattle.calling.specs.Lent.{Lent, lent, table_only}
 use Rattle.calling.specs.Serve.{Served, serve, result_of}
 use Rattle.calling.proofs.Areas.{serve_sound}
-use Rattle.blocks.specs.declared.Checked.TheVariants.{Sound}
 use Rattle.table.specs.Area.{size_in, table_in}
 use Rattle.ndushavire.specs.Word.{word, call_word}
 use Rattle.ndushavire.specs.Reads.{call_place, place_in}
@@ -171,14 +171,14 @@ letters =
 
 -- the same by what the checks answer
 abbrev place_known : List ℕ → ℕ
-place_known req = call_place (known false (Sound 0) (Sound 0) (bare req)).call
+place_known req = call_place (known false (Ok 0) (Ok 0) (bare req)).call
 
 all_known : (l : List (List ℕ)) → map place_of l ≡ map place_known l
 all_known [] = refl
 all_known (req ∷ l) =
     let e : place_of req ≡ place_known req =
     ap (λ (y : Served). call_place y.call)
-    (serve_sound (bare req) 0 sound_empty ∙ come (bare req) {y = known false (Sound 0) (Sound 0) (bare req)} roomy sound_empty no_vectors refl) in
+    (serve_sound (bare req) 0 sound_empty ∙ come (bare req) {y = known false (Ok 0) (Ok 0) (bare req)} roomy sound_empty no_vectors refl) in
     rw (e, all_known l)
 
 places : map place_of letters ≡ 176 ∷ 176 ∷ 20 ∷ 0 ∷ 76 ∷ 64 ∷ 176 ∷ 176 ∷ 176 ∷ 112 ∷ 144 ∷ 128 ∷ 32 ∷ 112 ∷ []

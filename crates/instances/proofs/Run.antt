@@ -1,10 +1,9 @@
 -- The laws of the vector file can be met: two MARs in a row, each for two vectors, over a file of three of their name, computed. They send two and one. Each
 -- table is in an area with two bytes behind it.
+use Rattle.std.specs.Prelude.{Result, Ok}
 use Rattle.octets.specs.Standard.{ℕ, ◌<◌, ◌≡◌, refl, sym, ap, ◌∙◌, List, [], ◌∷◌, ◌++◌, true, false, cond, ◌≢◌, arith, length, get_or, lit<}
 use Rattle.octets.specs.Run.{over}
 use Rattle.blocks.specs.Blocks.{block_of}
-use Rattle.blocks.specs.declared.Checked.{Checked}
-use Rattle.blocks.specs.declared.Checked.TheVariants.{Sound}
 use Rattle.table.specs.Check.{check_table}
 use Rattle.vectors.specs.Chosen.{sent_of}
 use Rattle.vectors.specs.Sendable.{count_from}
@@ -76,15 +75,15 @@ unfolding opened unused fewer used comes any_holds sent_by remaining count_from
 all = 0
 
 -- the answers, with the number sent in 607, the table and the vectors afterwards; and the blocks that are sent
-unused_sound : check_vectors unused ≡ Sound 3
+unused_sound : check_vectors unused ≡ Ok 3
 unfolding all
 unused_sound = refl
 
-fewer_sound : check_vectors fewer ≡ Sound 3
+fewer_sound : check_vectors fewer ≡ Ok 3
 unfolding all
 fewer_sound = refl
 
-waiting_sound : check_table (waiting 0 s) 0 ≡ Sound 1
+waiting_sound : check_table (waiting 0 s) 0 ≡ Ok 1
 unfolding all
 waiting_sound = refl
 
@@ -103,7 +102,7 @@ second_front : table_only second ≡ front fewer (waiting 0 s)
 second_front = only_front (front fewer (waiting 0 s)) 1 waiting_sound
 
 -- what a call sends, by what its checks answer
-sends : (x : Lent) {c d : Checked} {ks : List ℕ} → small_buffer x.buffer ≡ false → check_of x ≡ c → check_vectors x.vectors ≡ d
+sends : (x : Lent) {c d : Result ℕ ℕ} {ks : List ℕ} → small_buffer x.buffer ≡ false → check_of x ≡ c → check_vectors x.vectors ≡ d
     → cond (any_holds (known_trials false c d x)) [] (sent_of (decision x (check_value c)).given.sent) ≡ ks → sent_by x ≡ ks
 unfolding sent_by
 sends x o e f g = rw (o, e, f) g

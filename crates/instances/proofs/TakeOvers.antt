@@ -1,14 +1,13 @@
 -- Requests before, between and after a take-over: the theorems can be met by a removal over an area of two records and a new table of three, computed.
+use Rattle.std.specs.Prelude.{Ok}
 use Rattle.octets.specs.Standard.{ℕ, true, false, ◌≡◌, refl, ap, ◌∙◌, List, [], arith, eqb, ltb, ne_eqb, lt-ltb, lit<, lit≤}
 use Rattle.record.specs.Fields.{count_of}
 use Rattle.blocks.specs.Blocks.{block_of}
-use Rattle.blocks.specs.declared.Checked.TheVariants.{Sound}
 use Rattle.table.specs.Area.{check_area}
 use Rattle.taking.specs.TakeOver.{take_over}
 use Rattle.taking.specs.Torn.{lower_block}
 use Rattle.taking.specs.Written.{cut_after, torn_after}
-use Rattle.taking.specs.declared.Taken.{Taken}
-use Rattle.taking.specs.declared.Taken.TheVariants.{Took, Refused}
+use Rattle.taking.specs.TakeOver.{Taken, refused}
 use Rattle.requests.specs.Request.{under_cx}
 use Rattle.calling.specs.Call.{Answered}
 use Rattle.calling.specs.Lent.{Lent, lent, holding}
@@ -41,24 +40,24 @@ unfolding all opened
 new_call =
     ap (λ (y : Served). y.call)
     (serve_sound (over (three 6)) 3 three_sound
-    ∙ computed.come (over (three 6)) {y = computed.known false (Sound 3) (Sound 0) (over (three 6))} computed.roomy three_sound computed.no_vectors refl)
+    ∙ computed.come (over (three 6)) {y = computed.known false (Ok 3) (Ok 0) (over (three 6))} computed.roomy three_sound computed.no_vectors refl)
 
 old_call : (serve (over roomy)).call ≡ Answered (record { length = 112; place = 0 })
 unfolding all opened
 old_call =
     ap (λ (x : Lent). (serve_table x).call) (ap (holding (over roomy)) roomy_table)
     ∙ ap (λ (y : Served). y.call)
-    (computed.come (over (two 5)) {y = computed.known false (Sound 2) (Sound 0) (over (two 5))} computed.roomy old_sound computed.no_vectors refl)
+    (computed.come (over (two 5)) {y = computed.known false (Ok 2) (Ok 0) (over (two 5))} computed.roomy old_sound computed.no_vectors refl)
 
 -- out of the word of the take-over the caller reads 3 records; one of an issue number that is not greater is refusal 10
 reads_take : (area fresh : List ℕ) (m : Taken) → (take_over area fresh 0).taken ≡ m → ReadsTake m (take_word m)
 reads_take area fresh m e = rw e at (taken_over area fresh [] {area' = (take_over area fresh 0).area} (record { word_is = refl; area_is = refl }))
 
-met_taken_over : ReadsTake (Took 3) 3
-met_taken_over = reads_take roomy (three 6) (Took 3) three_taken
+met_taken_over : ReadsTake (Ok 3) 3
+met_taken_over = reads_take roomy (three 6) (Ok 3) three_taken
 
-met_taken_refused : ReadsTake (Refused 10) (word 10 0 0)
-met_taken_refused = reads_take (none 2 6) (one 6) (Refused 10) (answer ten_next)
+met_taken_refused : ReadsTake (refused 10) (word 10 0 0)
+met_taken_refused = reads_take (none 2 6) (one 6) (refused 10) (answer ten_next)
 
 -- AFTER: as over the new table alone
 met_after : SameServed (over (take_over roomy (three 6) 0).area) (over (three 6))

@@ -1,6 +1,6 @@
 -- An item is written by the writers of its parts.
 use Rattle.octets.specs.Standard.{ℕ, zero, suc, ◌+◌, ◌*◌, ◌≤◌, ◌<◌, Bool, true, false, ◌≡◌, refl, List, ◌++◌, arith, add-one, length, get_or, take}
-use Rattle.octets.specs.Standard.{drop, length-take, length-drop, length-append, length-take-le, lit≤, ltb, ltb-true, ltb-false}
+use Rattle.octets.specs.Standard.{drop, length-take, length-drop, length-append, length-take-le, lit≤, get_or-take, ltb, ltb-true, ltb-false}
 use Rattle.octets.specs.Run.{over, Wrote}
 use Rattle.octets.proofs.Writes.{lent, back, then, named, then_front}
 use Rattle.pen.specs.Bytes.{vendor_head, vendor_bytes, vendor_number, vendor_group}
@@ -8,6 +8,7 @@ use Rattle.pen.proofs.Sizes.{there_length, there_room, vendor_length, vendor_gro
 use Rattle.pen.proofs.Writers.{wrote_there, wrote_none}
 use Rattle.blocks.specs.Blocks.{block_of}
 use Rattle.blocks.proofs.Blocks.{block_length}
+use Rattle.vectors.specs.Chosen.{sent_of}
 use Rattle.vectors.specs.Scheme.{scheme}
 use Rattle.vectors.specs.VectorBlock.{vector_of, rand_autn_of, xres_of, confidentiality_of, integrity_of}
 use Rattle.vectors.specs.Sendable.{Sendable}
@@ -101,9 +102,6 @@ module _ (v blocks : List ℕ) where
   unfolding items_bytes
   items_next i b e p q = rw (add-one i, ← e) (then p (rw (add-one i) at q))
 
-  pub items_all : (i n : ℕ) {o xs : List ℕ} {at : ℕ} → i ≤ n → n ≤ i → Wrote (items_bytes v blocks i) o xs at → Wrote (items_bytes v blocks n) o xs at
-  items_all i n h k p = let e : i ≡ n = omega arith in rw e at p
-
 -- The number and the items.
 numbered_long : (v : List ℕ) (s : Sent) → length (numbered_bytes v s) ≡ 16 + length (items_bytes v s.blocks s.count)
 unfolding numbered_bytes vendor_number vendor_head
@@ -111,24 +109,32 @@ numbered_long v s = length-append (vendor_number 607 s.count) (items_bytes v s.b
 
 -- Blocks that can be sent: each is one of the file, and all of them take at most 16 times 184 bytes.
 module _ (v : List ℕ) (s : Sent) (good : Sendable v s) where
-  module _ (i : ℕ) (h : i < s.count) where
-    pub items_place : i < 16
-    items_place = omega (arith, good.few)
+  all_sent : length (sent_of s) ≡ s.count
+  all_sent = length-take-le s.count s.blocks (omega (arith, good.few, good.room))
 
-    pub items_held : i < length s.blocks
-    items_held = rw good.room items_place
+  pub items_all : (i : ℕ) {o xs : List ℕ} {at : ℕ} → i ≡ length (sent_of s) → Wrote (items_bytes v s.blocks i) o xs at
+      → Wrote (items_bytes v s.blocks s.count) o xs at
+  items_all i e p = rw (e, all_sent) at p
 
-    pub items_within : 512 * get_or s.blocks i 0 + 512 ≤ length v
-    items_within = good.within i h
+  module _ (i : ℕ) (sent : i < length (sent_of s)) where
+    h : i < s.count
+    h = omega (arith, all_sent)
+
+    -- block i of those that are sent
+    pub item_is : get_or (sent_of s) i 0 ≡ get_or s.blocks i 0
+    item_is = get_or-take s.count s.blocks i 0 h
+
+    pub items_within : 512 * get_or (sent_of s) i 0 + 512 ≤ length v
+    items_within = rw item_is (good.within i h)
 
     pub items_short : (b : List ℕ) → b ≡ block_of v (get_or s.blocks i 0) → (vector_of b).xres ≤ 16
     items_short b e = rw e (good.short i h)
 
-    pub items_fit : {o xs : List ℕ} {at : ℕ} (b : List ℕ) → b ≡ block_of v (get_or s.blocks i 0) → length b ≡ 512
-        → length (items_bytes v s.blocks s.count) ≤ length o
+    pub items_fit : {o xs : List ℕ} {at : ℕ} (b : List ℕ) → b ≡ block_of v (get_or s.blocks i 0) → length (items_bytes v s.blocks s.count) ≤ length o
         → length xs ≡ length o → Wrote (items_bytes v s.blocks i) o xs at → item_size b ≤ length (lent at xs)
-    items_fit {o} {xs} {at} b e l m k p =
+    items_fit {o} {xs} {at} b e m k p =
         let r = rw (← e) at (items_room v s.blocks s.count i h) in
+        let l : length b ≡ 512 = rw e (block_length v (get_or s.blocks i 0) (good.within i h)) in
         simp (length-take, length-drop) (omega (arith, p.count, r, item_long b l (items_short b e) (suc i)))
 
   items_most : (n : ℕ) → n ≤ s.count → length (items_bytes v s.blocks n) ≤ 184 * n

@@ -6,13 +6,14 @@ ghost use Rattle.vectors.specs.Sendable.{Sendable};
 ghost use Rattle.vectors.specs.VectorBlock.{vector_of};
 ghost use Rattle.items.specs.Items.{challenge_bytes, key_bytes, key_size, item_bytes, item_size, items_bytes, numbered_bytes, sent_bytes};
 
+use blocks::BLOCK;
 use diameter::codes;
 use vectors::choice::Sent;
 use vectors::vector;
 
 // 613, 608 and 609 of item i; the scheme is the one that is served.
-fn put_challenge(out: &mut [u8], b: &[u8], i: u32) -> usize
-    requires { (length b.now ≡ 512) × (88 ≤ length out.old) }
+fn put_challenge(out: &mut [u8], b: &[u8; BLOCK], i: u32) -> usize
+    requires { 88 ≤ length out.old }
     ensures { (result ≡ 88) × Wrote (challenge_bytes i b.now) out.old out.new result }
 {
     let a = pen::put_vendor_number(out, codes::SIP_ITEM_NUMBER, i);
@@ -26,8 +27,8 @@ fn put_challenge(out: &mut [u8], b: &[u8], i: u32) -> usize
 }
 
 // 610, 625 and 626.
-fn put_keys(out: &mut [u8], b: &[u8]) -> usize
-    requires { (length b.now ≡ 512) × ((vector_of b.now).xres ≤ 16) × (key_size b.now ≤ length out.old) }
+fn put_keys(out: &mut [u8], b: &[u8; BLOCK]) -> usize
+    requires { ((vector_of b.now).xres ≤ 16) × (key_size b.now ≤ length out.old) }
     ensures { (result ≡ key_size b.now) × Wrote (key_bytes b.now) out.old out.new result }
 {
     let a = pen::put_vendor_avp(out, codes::SIP_AUTHORIZATION, vector::xres(b));
@@ -45,8 +46,8 @@ fn put_keys(out: &mut [u8], b: &[u8]) -> usize
 }
 
 // The members of item i.
-fn put_members(out: &mut [u8], b: &[u8], i: u32) -> usize
-    requires { (length b.now ≡ 512) × ((vector_of b.now).xres ≤ 16) × (88 + key_size b.now ≤ length out.old) }
+fn put_members(out: &mut [u8], b: &[u8; BLOCK], i: u32) -> usize
+    requires { ((vector_of b.now).xres ≤ 16) × (88 + key_size b.now ≤ length out.old) }
     ensures { (result ≡ 88 + key_size b.now)
         × Wrote (challenge_bytes i b.now ++ key_bytes b.now) out.old out.new result }
 {
@@ -55,8 +56,8 @@ fn put_members(out: &mut [u8], b: &[u8], i: u32) -> usize
 }
 
 // Item i: its members first, since their length stands in its header.
-fn put_item(out: &mut [u8], b: &[u8], i: u32) -> usize
-    requires { (length b.now ≡ 512) × ((vector_of b.now).xres ≤ 16) × (item_size b.now ≤ length out.old) }
+fn put_item(out: &mut [u8], b: &[u8; BLOCK], i: u32) -> usize
+    requires { ((vector_of b.now).xres ≤ 16) × (item_size b.now ≤ length out.old) }
     ensures { (result ≤ length out.old) × Wrote (item_bytes i b.now) out.old out.new result }
 {
     let n = 12 + put_members(&mut out[12..], b, i);
@@ -69,12 +70,13 @@ fn put_items(out: &mut [u8], v: &[u8], sent: Sent) -> usize
     requires { Sendable v.now sent × (length (items_bytes v.now sent.blocks sent.count) ≤ length out.old) }
     ensures { Wrote (items_bytes v.now sent.blocks sent.count) out.old out.new result }
 {
-    let blocks = sent.blocks;
-    let n = sent.count;
     let mut at = 0;
-    for i in 0..n {
-        let k = blocks[i] as usize;
-        at += put_item(&mut out[at..], blocks::block(v, k), (i + 1) as u32);
+    for (i, k) in sent.blocks[..sent.count].iter().enumerate() {
+        at += put_item(
+            &mut out[at..],
+            blocks::block(v, *k as usize),
+            (i + 1) as u32,
+        );
     }
     at
 }

@@ -2,8 +2,8 @@
 use Rattle.octets.specs.Standard.{ℕ, suc, ◌+◌, ◌-◌, ◌<◌, ◌≤◌, Bool, true, false, ◌&&◌, cond, and_assoc, ◌≡◌, refl, sym, ◌∙◌, ap, arith, add-one}
 use Rattle.octets.specs.Standard.{leb, le-leb, lt-leb, leb-false, List, length, length-take, drop, Option, none, some}
 use Rattle.octets.specs.Name.{order_of}
-use Rattle.octets.specs.declared.name.Order.{Order}
-use Rattle.octets.specs.declared.name.Order.TheVariants.{Less, Equal, Greater}
+use Rattle.std.specs.declared.cmp.Ordering.{Ordering}
+use Rattle.std.specs.declared.cmp.Ordering.TheVariants.{Less, Equal, Greater}
 use Rattle.octets.proofs.All.{and_left}
 use Rattle.record.specs.Fields.{count_of, issue_of, public_of}
 use Rattle.record.specs.HeaderBlock.{header_of}
@@ -63,7 +63,7 @@ module _ (a b : List ℕ) (k : ℕ) where
   unfolding follows
   follows_first h = rw (le-leb k 1 h)
 
-  module _ (h : 1 < k) (s t : List ℕ) {o : Order} (es : s ≡ public_of a) (et : t ≡ public_of b) (e : o ≡ order_of s t) where
+  module _ (h : 1 < k) (s t : List ℕ) {o : Ordering} (es : s ≡ public_of a) (et : t ≡ public_of b) (e : o ≡ order_of s t) where
     order_is : follows a b k ≡ is_less o
     unfolding follows
     order_is = rw (lt-leb k 1 h, e, es, et)
@@ -163,9 +163,6 @@ module _ (header : List ℕ) (fit : Fit header) (h : Header) (e : h ≡ header_o
   unfolding header_of
   networks_few = rw e fit.networks
 
-  pub next_counted : (m : ℕ) → m < count_of header → m + 1 ≤ h.count
+  pub count_read : h.count ≡ count_of header
   unfolding header_of
-  next_counted m l = rw e (omega arith)
-
-pub before_whole : (list header a : List ℕ) (m : ℕ) → LineBefore list header a m → length a ≡ 512
-before_whole list header a m l = l.size
+  count_read = rw e

@@ -13,7 +13,6 @@ use Rattle.saying.specs.Noted.{Noted}
 use Rattle.saying.proofs.Reading.{noted_less}
 use Rattle.judging.specs.Fit.{Fit}
 use Rattle.judging.specs.Members.{stops_by, Reached, SlotRead, FoundSo, held_by, slots_after}
-use Rattle.judging.specs.declared.members.Found.{Found}
 use Rattle.judging.proofs.Fitting.{fit_block, fit_here}
 
 -- Whether a slot ends the search, by what is read of it.
@@ -73,13 +72,11 @@ module _ (list header : List ℕ) (fit : Fit header) (slots : List ℕ) (k : ℕ
       pub search_more : x ≡ false → SlotsPassed (table_said list header) slots hash k (i + 1)
       search_more f = kept.find_more (table_said list header) slots hash k i p place is (stops_as hash at is e) f m (omega (arith, fit.few))
 
-      pub search_here : {a : List ℕ} → x ≡ true → SlotRead list header w x a → hash ≡ hash_of b
-          → FoundSo list header slots k a (record { at = at; hash = hash })
-      search_here f r h =
+      pub search_here : {a : List ℕ} → x ≡ true → SlotRead list header w x a → FoundSo list header slots k a hash at
+      search_here f r =
           record {
             found = kept.find_here (table_said list header) slots hash k i p place is (stops_as hash at is e) f;
             slot = omega arith;
-            own = rw own_block at h;
             block = λ n.
                 let l : get_or slots at 0 % 8192 < k = m.before at in
                 (rw is at (r.block f) n) ∙ sym (fit_block list header fit (get_or slots at 0 % 8192) (omega arith));
@@ -93,45 +90,48 @@ module _ (list header : List ℕ) (fit : Fit header) (slots : List ℕ) (k : ℕ
     apart_kept e z = kept.apart_kept (table_said list header) slots k m own_block e z
 
     -- a set, held against the slot where the search ended
-    module _ (a : List ℕ) (f : Found) (so : FoundSo list header slots k a f) where
-      pub held_agrees : {x : Bool} → Agreed (table_said list header) k → x ≡ held_by a b (get_or slots f.at 0) → x ≡ agrees_at (table_said list header) k
-      unfolding held_by
-      held_agrees {x} good e = go (eqb (get_or slots f.at 0) 0) refl e
-        where
-          go : (y : Bool) → eqb (get_or slots f.at 0) 0 ≡ y → x ≡ cond y true (agreeing a b) → x ≡ agrees_at (table_said list header) k
-          go true g h =
-              h ∙ kept.empty_agrees (table_said list header) slots k m f.hash f.at so.found so.own so.slot refl (eqb-true _ _ g)
-          go false g h =
-              let n : get_or slots f.at 0 ≡ 0 → ⊥ = eqb-false _ _ g in
-              kept.full_agrees (table_said list header) slots k m f.hash f.at so.found so.own so.slot refl n good (so.block n) own_block h
+    module _ (a : List ℕ) (hash at : ℕ) (h : hash ≡ hash_of b) (so : FoundSo list header slots k a hash at) where
+      own : hash ≡ hash_of (block_of (table_said list header) k)
+      own = rw own_block at h
 
-      pub held_kept : {ss : List ℕ} → 1 ≤ k → ss ≡ slots_after slots f k → Remembers (table_said list header) ss (k + 1)
-      unfolding slots_after
-      held_kept h e = rw e (go (eqb (get_or slots f.at 0) 0) refl)
+      pub held_agrees : {x : Bool} → Agreed (table_said list header) k → x ≡ held_by a b (get_or slots at 0) → x ≡ agrees_at (table_said list header) k
+      unfolding held_by
+      held_agrees {x} good e = go (eqb (get_or slots at 0) 0) refl e
         where
-          go : (y : Bool) → eqb (get_or slots f.at 0) 0 ≡ y
-              → Remembers (table_said list header) (cond y (set slots f.at (tag_of f.hash * 8192 + k)) slots) (k + 1)
+          go : (y : Bool) → eqb (get_or slots at 0) 0 ≡ y → x ≡ cond y true (agreeing a b) → x ≡ agrees_at (table_said list header) k
+          go true g h =
+              h ∙ kept.empty_agrees (table_said list header) slots k m hash at so.found own so.slot refl (eqb-true _ _ g)
+          go false g h =
+              let n : get_or slots at 0 ≡ 0 → ⊥ = eqb-false _ _ g in
+              kept.full_agrees (table_said list header) slots k m hash at so.found own so.slot refl n good (so.block n) own_block h
+
+      pub held_kept : {ss : List ℕ} → 1 ≤ k → ss ≡ slots_after slots hash at k → Remembers (table_said list header) ss (k + 1)
+      unfolding slots_after
+      held_kept h e = rw e (go (eqb (get_or slots at 0) 0) refl)
+        where
+          go : (y : Bool) → eqb (get_or slots at 0) 0 ≡ y
+              → Remembers (table_said list header) (cond y (set slots at (tag_of hash * 8192 + k)) slots) (k + 1)
           go true g =
-              kept.empty_kept (table_said list header) slots k m f.hash f.at so.found so.own so.slot refl (eqb-true _ _ g) h
+              kept.empty_kept (table_said list header) slots k m hash at so.found own so.slot refl (eqb-true _ _ g) h
               (omega (arith, fit.few))
               refl
-          go false g = kept.full_kept (table_said list header) slots k m f.hash f.at so.found so.own so.slot refl (eqb-false _ _ g)
+          go false g = kept.full_kept (table_said list header) slots k m hash at so.found own so.slot refl (eqb-false _ _ g)
 
 -- The slot by what is read of it.
-module _ (a b slots : List ℕ) (f : Found) (k : ℕ) {w : ℕ} (is : w ≡ get_or slots f.at 0) where
-  pub held_empty : w ≡ 0 → true ≡ held_by a b (get_or slots f.at 0)
+module _ (a b slots : List ℕ) (hash at k : ℕ) {w : ℕ} (is : w ≡ get_or slots at 0) where
+  pub held_empty : w ≡ 0 → true ≡ held_by a b (get_or slots at 0)
   unfolding held_by
   held_empty e = rw (← is, eq-eqb w 0 e)
 
-  pub held_full : {x : Bool} → (w ≡ 0 → ⊥) → x ≡ agreeing a b → x ≡ held_by a b (get_or slots f.at 0)
+  pub held_full : {x : Bool} → (w ≡ 0 → ⊥) → x ≡ agreeing a b → x ≡ held_by a b (get_or slots at 0)
   unfolding held_by
   held_full n e = rw (← is, ne_eqb w 0 n) e
 
-  pub after_empty : {x : ℕ} → w ≡ 0 → x ≡ tag_of f.hash → set slots f.at (x * 8192 + k) ≡ slots_after slots f k
+  pub after_empty : {x : ℕ} → w ≡ 0 → x ≡ tag_of hash → set slots at (x * 8192 + k) ≡ slots_after slots hash at k
   unfolding slots_after
   after_empty e g = rw (← is, eq-eqb w 0 e, g)
 
-  pub after_full : (w ≡ 0 → ⊥) → slots ≡ slots_after slots f k
+  pub after_full : (w ≡ 0 → ⊥) → slots ≡ slots_after slots hash at k
   unfolding slots_after
   after_full n = rw (← is, ne_eqb w 0 n)
 

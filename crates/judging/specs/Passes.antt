@@ -1,20 +1,17 @@
 -- A list is judged in two passes: each record in its place, then the sets of those that stand.
-use Rattle.std.specs.Prelude.{ℕ, ◌+◌, ◌-◌, ◌*◌, ◌<◌, ◌≤◌, Bool, true, ◌&&◌, cond, ◌≡◌, List, eqb, leb, length}
+use Rattle.std.specs.Prelude.{ℕ, ◌+◌, ◌-◌, ◌*◌, ◌<◌, ◌≤◌, Bool, true, ◌&&◌, cond, ◌≡◌, List, eqb, leb, length, Result, Ok, Err}
 use Rattle.octets.specs.All.{all_below}
 use Rattle.octets.specs.Name.{order_of}
 use Rattle.record.specs.Fields.{count_of, public_of, set_of}
 use Rattle.record.specs.HeaderBlock.{header_of}
 use Rattle.record.specs.RecordBlock.{sound_record}
 use Rattle.record.specs.declared.header.Header.{Header}
-use Rattle.blocks.specs.declared.Checked.{Checked}
-use Rattle.blocks.specs.declared.Checked.TheVariants.{Sound, Bad}
 use Rattle.table.specs.Check.{is_less, stands_at}
 use Rattle.table.specs.Leading.{leading, setless, Setless}
 use Rattle.importing.specs.Above.{above}
 use Rattle.importing.specs.Said.{place_of, said_at, table_said, enough_at}
 use Rattle.saying.specs.Noted.{Noted}
 use Rattle.judging.specs.declared.standing.Stood.{Stood}
-use Rattle.judging.specs.declared.standing.Turn.{Turn}
 
 -- what the first pass asks of record k: everything but the agreement of its set
 unfoldable pub fits_at : List ℕ → List ℕ → ℕ → ℕ → Bool
@@ -32,13 +29,13 @@ pub record LineBefore (list header a : List ℕ) (m : ℕ) : Type 0 where
   pub size : length a ≡ 512
   pub said : 0 < m → a ≡ said_at list header m
 
--- what the turn of record m + 1 finds, whose line begins at a place
-pub record Turned (list header : List ℕ) (file at m : ℕ) (b : List ℕ) (t : Turn) : Type 0 where
+-- what the turn of record m + 1 finds, whose line begins at a place: how long it is, whether its record fits, and its set's number
+pub record Turned (list header : List ℕ) (file at m : ℕ) (b : List ℕ) (size : ℕ) (fits : Bool) (set : ℕ) : Type 0 where
   pub said : b ≡ said_at list header (m + 1)
-  pub place : at + t.size ≡ place_of list (m + 1)
-  pub within : at + t.size ≤ length list
-  pub fits : t.fits ≡ fits_at list header file (m + 1)
-  pub set : t.set ≡ set_of b
+  pub place : at + size ≡ place_of list (m + 1)
+  pub within : at + size ≤ length list
+  pub fitting : fits ≡ fits_at list header file (m + 1)
+  pub set_read : set ≡ set_of b
 
 -- where the pass stands behind m records
 pub record Standing (list header : List ℕ) (file : ℕ) (places a : List ℕ) (m at sets : ℕ) : Type 0 where
@@ -60,5 +57,5 @@ pub record StoodSo (list header : List ℕ) (file : ℕ) (places : List ℕ) (s 
   pub noted : Noted list places s.records
 
 -- the answer where m of the records are good and the next one, if there is one, is not, and the last good one's line ends at a place
-abbrev pub verdict_of : List ℕ → ℕ → ℕ → ℕ → Checked
-verdict_of list count m end = cond (leb (m + 1) count) (Bad (m + 1)) (cond (eqb end (length list)) (Sound count) (Bad (m + 1)))
+abbrev pub verdict_of : List ℕ → ℕ → ℕ → ℕ → Result ℕ ℕ
+verdict_of list count m end = cond (leb (m + 1) count) (Err (m + 1)) (cond (eqb end (length list)) (Ok count) (Err (m + 1)))

@@ -30,16 +30,16 @@ fn verdict(list: &[u8], count: usize, m: usize, end: usize) -> Checked
 {
     let next = m + 1;
     if next <= count {
-        return Checked::Bad(next as u32);
+        return Err(next as u32);
     }
     if end == list.len() {
-        return Checked::Sound(count as u32);
+        return Ok(count as u32);
     }
-    Checked::Bad(next as u32)
+    Err(next as u32)
 }
 
 // The lines of the records: first each in its place, then the sets of those that stand.
-fn records(list: &[u8], header: &[u8], file: usize) -> Checked
+fn records(list: &[u8], header: &[u8; 512], file: usize) -> Checked
     requires { Fit header.now × (is_titled list.now ≡ true) }
     ensures { result ≡ first_wrong list.now header.now file }
 {
@@ -56,13 +56,13 @@ fn records(list: &[u8], header: &[u8], file: usize) -> Checked
 }
 
 // The number of the first wrong line, less one, under a header block and beside a profile file of such a length; the count where there is none.
-pub fn first_wrong(list: &[u8], header: &[u8], file: usize) -> Checked
+pub fn first_wrong(list: &[u8], header: &[u8; 512], file: usize) -> Checked
     requires { Fit header.now }
     ensures { result ≡ first_wrong list.now header.now file }
 {
     if titled(list) {
         records(list, header, file)
     } else {
-        Checked::Bad(0)
+        Err(0)
     }
 }

@@ -15,15 +15,15 @@ use table::{hash, members};
 
 // Whether a block's set is looked for no further than a slot. The slot's block is read if its hash may be the same.
 fn stops(
-    a: &mut [u8],
-    b: &[u8],
+    a: &mut [u8; 512],
+    b: &[u8; 512],
     list: &[u8],
-    header: &[u8],
-    places: &[u32],
+    header: &[u8; 512],
+    places: &[u32; 128],
     hash: usize,
     word: usize,
 ) -> bool
-    requires { (length a.old ≡ 512) × (length b.now ≡ 512) × (length header.now ≡ 512) × (121 ≤ length list.now)
+    requires { (121 ≤ length list.now)
         × Reached list.now places.now word }
     ensures { (result ≡ stops_by list.now header.now hash b.now word)
         × SlotRead list.now header.now word result a.new }
@@ -38,48 +38,41 @@ fn stops(
     false
 }
 
-// The slot at which a search ended, and the hash that was looked for.
-#[derive(Clone, Copy)]
-pub struct Found {
-    pub at: usize,
-    pub hash: usize,
-}
-
-// The first slot of its hash at which record k's set is looked for no further; its block is left in `a`.
+// The place of the first slot of a hash at which record k's set is looked for no further; the slot's block is left in `a`.
 fn find(
-    a: &mut [u8],
-    b: &[u8],
+    a: &mut [u8; 512],
+    b: &[u8; 512],
     list: &[u8],
-    header: &[u8],
-    places: &[u32],
+    header: &[u8; 512],
+    places: &[u32; 128],
     slots: &[u16],
+    hash: usize,
     k: usize,
-) -> Found
-    requires { Fit header.now × (length a.old ≡ 512) × (length b.now ≡ 512) × (121 ≤ length list.now) × (1 ≤ k) × (k ≤ count_of header.now)
+) -> usize
+    requires { Fit header.now × (121 ≤ length list.now) × (1 ≤ k) × (k ≤ count_of header.now)
         × Noted list.now places.now k × Remembers (table_said list.now header.now) slots.now k × (b.now ≡ said_at list.now header.now k) }
-    ensures { FoundSo list.now header.now slots.now k a.new result }
+    ensures { FoundSo list.now header.now slots.now k a.new hash result }
 {
-    let hash = hash::hash(b);
     let home = hash % members::SLOTS;
+    // No range bounds it: some slot is empty, and the search ends there at the latest.
     let mut i = 0;
     loop {
         let at = (home + i) % members::SLOTS;
         if stops(a, b, list, header, places, hash, members::slot(slots, at)) {
-            return Found { at, hash };
+            return at;
         }
         i += 1;
     }
 }
 
 // Whether a block agrees with the one of the slot where its set was looked for, if there is one; if not, it is remembered there as record k.
-fn held(a: &[u8], b: &[u8], slots: &mut [u16], f: Found, k: usize) -> bool
-    requires { (length a.now ≡ 512) × (length b.now ≡ 512) × (length slots.old ≡ 4608) × (f.at < 4608) × (k ≤ 4096) }
-    ensures { (result ≡ held_by a.now b.now (get_or slots.old f.at 0))
-        × (slots.new ≡ slots_after slots.old f k) }
+fn held(a: &[u8; 512], b: &[u8; 512], slots: &mut [u16], hash: usize, at: usize, k: usize) -> bool
+    requires { (length slots.old ≡ 4608) × (at < 4608) × (k ≤ 4096) }
+    ensures { (result ≡ held_by a.now b.now (get_or slots.old at 0))
+        × (slots.new ≡ slots_after slots.old hash at k) }
 {
-    let at = f.at;
     if members::slot(slots, at) == 0 {
-        slots[at] = (members::tag(f.hash) * members::TAG + k) as u16;
+        slots[at] = (members::tag(hash) * members::TAG + k) as u16;
         return true;
     }
     sets::agree(a, b)
@@ -87,15 +80,15 @@ fn held(a: &[u8], b: &[u8], slots: &mut [u16], f: Found, k: usize) -> bool
 
 // Whether record k's block agrees with every record of its set before it, those being remembered.
 fn agrees_by(
-    a: &mut [u8],
-    b: &[u8],
+    a: &mut [u8; 512],
+    b: &[u8; 512],
     list: &[u8],
-    header: &[u8],
-    places: &[u32],
+    header: &[u8; 512],
+    places: &[u32; 128],
     slots: &mut [u16],
     k: usize,
 ) -> bool
-    requires { Fit header.now × (length a.old ≡ 512) × (length b.now ≡ 512) × (121 ≤ length list.now) × (1 ≤ k) × (k ≤ count_of header.now)
+    requires { Fit header.now × (121 ≤ length list.now) × (1 ≤ k) × (k ≤ count_of header.now)
         × Noted list.now places.now k × Remembers (table_said list.now header.now) slots.old k
         × Agreed (table_said list.now header.now) k × (b.now ≡ said_at list.now header.now k) }
     ensures { (result ≡ agrees_at (table_said list.now header.now) k)
@@ -104,33 +97,30 @@ fn agrees_by(
     if sets::set(b) == 0 {
         return true;
     }
-    let f = find(a, b, list, header, places, slots, k);
-    held(a, b, slots, f, k)
+    let hash = hash::hash(b);
+    let at = find(a, b, list, header, places, slots, hash, k);
+    held(a, b, slots, hash, at, k)
 }
 
 // How many of the first n records agree with those before them, up to the first that does not.
 pub fn agreeing(
     list: &[u8],
-    header: &[u8],
-    places: &[u32],
+    header: &[u8; 512],
+    places: &[u32; 128],
     n: usize,
-    a: &mut [u8],
-    b: &mut [u8],
+    a: &mut [u8; 512],
+    b: &mut [u8; 512],
 ) -> usize
-    requires { Fit header.now × (121 ≤ length list.now) × (n ≤ count_of header.now) × Noted list.now places.now n
-        × (length a.old ≡ 512) × (length b.old ≡ 512) }
+    requires { Fit header.now × (121 ≤ length list.now) × (n ≤ count_of header.now) × Noted list.now places.now n }
     ensures { (result ≡ leading (agrees_at (table_said list.now header.now)) n 1) × (result ≤ n) }
 {
     let mut slots = [0u16; members::SLOTS];
-    let mut m = 0;
     let mut at = saying::FIRST;
-    while m < n {
+    for m in 0..n {
         at += saying::read(b, list, at, m, header);
-        if agrees_by(a, b, list, header, places, &mut slots, m + 1) {
-            m += 1;
-        } else {
+        if !agrees_by(a, b, list, header, places, &mut slots, m + 1) {
             return m;
         }
     }
-    m
+    n
 }

@@ -17,7 +17,7 @@ fn put_number(out: &mut [u8], n: u64) -> usize
     text.len()
 }
 
-// Words, the digits of n, and words.
+// Words, the digits of n, and words. Copied piece by piece, since the contract says each byte that a program writes.
 pub fn put_words(out: &mut [u8], before: &[u8], n: u64, after: &[u8]) -> usize
     requires { length before.now + 20 + length after.now ≤ length out.old }
     ensures { (result ≤ length before.now + 20 + length after.now)

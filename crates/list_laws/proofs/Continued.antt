@@ -2,7 +2,7 @@
 use Rattle.octets.specs.Standard.{ℕ, zero, suc, ◌+◌, ◌-◌, ◌*◌, ◌<◌, ◌≤◌, Bool, true, false, ◌&&◌, cond, ◌≡◌, refl, sym, ◌∙◌, arith}
 use Rattle.octets.specs.Standard.{leb, le-leb, lt-leb, leb-true, leb-false, List, [], ◌++◌, length, length-take, drop}
 use Rattle.octets.specs.Name.{order_of}
-use Rattle.octets.specs.declared.name.Order.TheVariants.{Less}
+use Rattle.std.specs.declared.cmp.Ordering.TheVariants.{Less}
 use Rattle.octets.proofs.All.{and_left, and_right}
 use Rattle.octets.proofs.Chains.{◌also◌}
 use Rattle.octets.proofs.Numbers.{Bytes, word_lt}

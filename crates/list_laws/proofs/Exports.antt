@@ -1,11 +1,11 @@
 -- What the statements on lists are about: what export can write under a header block and beside a profile file.
+use Rattle.std.specs.Prelude.{Ok}
 use Rattle.octets.specs.Standard.{ℕ, ◌≤◌, ◌≡◌, refl, sym, ◌∙◌, arith, le-ltb, List, length, take, take_at, drop}
 use Rattle.octets.specs.Run.{over}
 use Rattle.octets.proofs.Numbers.{Bytes}
 use Rattle.blocks.specs.Blocks.{block_of}
 use Rattle.listing.specs.ListOf.{list_of}
 use Rattle.listing.specs.Export.{came, writing, exported}
-use Rattle.listing.specs.declared.Listed.TheVariants.{Written}
 use Rattle.importing.specs.Import.{imported}
 use Rattle.importing.proofs.Given.{Exportable}
 use Rattle.importing.proofs.Importing.{import_gives}
@@ -20,7 +20,7 @@ pub record AnExport (list header : List ℕ) (file : ℕ) : Type 0 where
   pub area : List ℕ
   pub size : ℕ
   pub after : List ℕ
-  pub wrote : exported table file area ≡ came (Written size) after
+  pub wrote : exported table file area ≡ came (Ok size) after
   pub list_is : take size after ≡ list
 
 -- the first n bytes of a list are those of some export's

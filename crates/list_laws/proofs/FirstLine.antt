@@ -1,17 +1,15 @@
 -- "14, with the number of the first line, present or missing, that no export could hold there": of the beginnings that the list shares with exports under
 -- the header block and beside the profile file, some holds as many line ends as lines stand before the one that is named, and none holds more.
+use Rattle.std.specs.Prelude.{Result, Ok, Err}
 use Rattle.octets.specs.Standard.{ℕ, suc, ◌+◌, ◌-◌, ◌<◌, ◌≤◌, Bool, true, false, cond, true≢false, ◌≡◌, refl, sym, ◌∙◌, ap, arith}
 use Rattle.octets.specs.Standard.{eqb, ltb, le-leb, ltb-true, ltb-false, List, ◌++◌, append_assoc, length, length-append}
 use Rattle.octets.specs.Standard.{take, drop, take_all, take_at, take-take, take-append-le, take-append-drop}
-use Rattle.octets.specs.Run.{over}
 use Rattle.octets.proofs.Chains.{◌also◌}
 use Rattle.octets.proofs.Names.{same_yes}
 use Rattle.octets.proofs.Numbers.{Bytes}
 use Rattle.record.specs.Fields.{count_of}
 use Rattle.record.specs.HeaderBlock.{header_of}
 use Rattle.blocks.specs.Blocks.{block_of, first_bad}
-use Rattle.blocks.specs.declared.Checked.{Checked}
-use Rattle.blocks.specs.declared.Checked.TheVariants.{Sound, Bad}
 use Rattle.blocks.proofs.First.{FirstNot, bad_says, bad_sound, good_each, good_count}
 use Rattle.table.specs.Check.{sound_at}
 use Rattle.table.specs.Named.{public_at}
@@ -95,30 +93,30 @@ module _ (list header : List ℕ) (file : ℕ) (bytes : Bytes header) (fits : fi
   count = count_of header
 
   -- what a wrong line is
-  wrong_ways : (k : ℕ) → first_wrong list header file ≡ Bad k → (P : Type 0)
+  wrong_ways : (k : ℕ) → first_wrong list header file ≡ Err k → (P : Type 0)
       → (is_titled list ≡ false → k ≡ 0 → P)
       → (is_titled list ≡ true → FirstNot (holds_at list header file) count 1 k → P)
       → (is_titled list ≡ true → ((j : ℕ) → 1 ≤ j → j ≤ count → holds_at list header file j ≡ true) → k ≡ count + 1 → P) → P
   unfolding first_wrong
   wrong_ways k e P none one past = go (is_titled list) refl e
     where
-      bad : (a b : ℕ) → Bad a ≡ Bad b → b ≡ a
+      bad : (a b : ℕ) → ◌≡◌ {A = Result ℕ ℕ} (Err a) (Err b) → b ≡ a
       bad a b g = cc
 
       ended : is_titled list ≡ true → (n : ℕ) → count ≡ n → ((j : ℕ) → 1 ≤ j → j ≤ count → holds_at list header file j ≡ true) → (y : Bool)
-          → cond y (Sound n) (Bad (n + 1)) ≡ Bad k → P
-      ended t n q each true g = bad_sound (Sound n) k n g refl
+          → cond y (Ok n) (Err (n + 1)) ≡ Err k → P
+      ended t n q each true g = bad_sound (Ok n) k n g refl
       ended t n q each false g = past t each (bad (n + 1) k g ∙ rw (← q))
 
-      over : is_titled list ≡ true → (r : Checked) → first_bad (holds_at list header file) count count 1 ≡ r → over_records list r ≡ Bad k → P
-      over t (Bad j) f g =
+      over : is_titled list ≡ true → (r : Result ℕ ℕ) → first_bad (holds_at list header file) count count 1 ≡ r → over_records list r ≡ Err k → P
+      over t (Err j) f g =
           let q : k ≡ j = bad j k g in
           one t (rw q (bad_says (holds_at list header file) count count 1 j f))
-      over t (Sound n) f g =
+      over t (Ok n) f g =
           let q : count ≡ n = good_count (holds_at list header file) count n count 1 f in
           ended t n q (λ j a b. good_each (holds_at list header file) count n count 1 f j a (omega arith)) (eqb (place_of list n) (length list)) g
 
-      go : (y : Bool) → is_titled list ≡ y → cond y (over_records list (first_bad (holds_at list header file) count count 1)) (Bad 0) ≡ Bad k → P
+      go : (y : Bool) → is_titled list ≡ y → cond y (over_records list (first_bad (holds_at list header file) count count 1)) (Err 0) ≡ Err k → P
       go false t f = none t (bad 0 k f)
       go true t f = over t (first_bad (holds_at list header file) count count 1) refl f
 
@@ -173,7 +171,7 @@ module _ (list header : List ℕ) (file : ℕ) (bytes : Bytes header) (fits : fi
           (sound_same (table_said list header) s.table (header_of header) file k block_is ∙ r)
           also (rw (block_is k (omega arith)) (le-leb (count - k) (above 128 (public_at s.table k)) e))
 
-    ends_most : (k : ℕ) → first_wrong list header file ≡ Bad k → line_ends (take n list) ≤ k
+    ends_most : (k : ℕ) → first_wrong list header file ≡ Err k → line_ends (take n list) ≤ k
     ends_most k e = wrong_ways k e (line_ends (take n list) ≤ k) none one past
       where
         none : is_titled list ≡ false → k ≡ 0 → line_ends (take n list) ≤ k
@@ -245,7 +243,7 @@ module _ (list header : List ℕ) (file : ℕ) (bytes : Bytes header) (fits : fi
         (drop (place_of list m) list)
         (continued.begins list header file m bytes fits few each title)
 
-  ends_some : (k : ℕ) → first_wrong list header file ≡ Bad k → BegunEnds list header file k
+  ends_some : (k : ℕ) → first_wrong list header file ≡ Err k → BegunEnds list header file k
   ends_some k e = wrong_ways k e (BegunEnds list header file k) none one past
     where
       none : is_titled list ≡ false → k ≡ 0 → BegunEnds list header file k
@@ -260,7 +258,7 @@ module _ (list header : List ℕ) (file : ℕ) (bytes : Bytes header) (fits : fi
       past f each q = let z : k ≡ suc count = omega arith in rw z (lines_shared count (omega arith) each f)
 
   -- So the line that is named is the first that no export could hold there.
-  pub first_line_lem : (k : ℕ) → first_wrong list header file ≡ Bad k → NamedLine list header file k
+  pub first_line_lem : (k : ℕ) → first_wrong list header file ≡ Err k → NamedLine list header file k
   first_line_lem k e = record { some = out (ends_some k e); most = λ n s. ends_most n (into n s) k e }
     where
       into : (n : ℕ) → Shared list header file n → Begun list header file n

@@ -1,4 +1,5 @@
 -- The longest list: 4,096 lines of 840 bytes behind the first of 121, which is NDUSHAVIRE_LIST_MAX in the C header.
+use Rattle.std.specs.Prelude.{Ok}
 use Rattle.octets.specs.Standard.{ℕ, zero, suc, ◌+◌, ◌*◌, ◌/◌, ◌%◌, ◌<◌, ◌≤◌, Bool, true, false, cond, ◌≡◌, refl, ap, arith, ltb, lt-ltb}
 use Rattle.octets.specs.Standard.{List, ◌∷◌, [], length, length-append, length-take}
 use Rattle.octets.specs.Number.{be16_at, be32_at}
@@ -7,7 +8,6 @@ use Rattle.record.specs.Fields.{state_of, bits_of, roaming_of, mandatory_count, 
 use Rattle.record.specs.RecordBlock.{record_of}
 use Rattle.record.proofs.Tests.{Limits}
 use Rattle.blocks.specs.Blocks.{block_of}
-use Rattle.blocks.specs.declared.Checked.TheVariants.{Sound}
 use Rattle.blocks.proofs.Blocks.{block_bytes}
 use Rattle.table.specs.Check.{check_table}
 use Rattle.table.specs.SoundTable.{SoundTable}
@@ -136,7 +136,7 @@ module _ (t : List ℕ) (count : ℕ) (bytes : Bytes t) (s : SoundTable t count)
   list_lines = rw (list_is t count s) (omega (arith, first_length_lem, length-append first_line (lines_of t count), lines_most count (omega arith)))
 
 -- the list of a sound table: 840 bytes for each record behind the first line
-pub list_most : (t : List ℕ) (file count : ℕ) → Bytes t → check_table t file ≡ Sound count → length (list_of t) ≤ 121 + 840 * count
+pub list_most : (t : List ℕ) (file count : ℕ) → Bytes t → check_table t file ≡ Ok count → length (list_of t) ≤ 121 + 840 * count
 list_most t file count bytes e = list_lines t count bytes (record { file = file; checked = e })
 
 -- so an area of 3,440,761 bytes is never too short

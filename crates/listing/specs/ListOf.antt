@@ -1,8 +1,7 @@
 -- 02 [14]: "Export a sound edition 2 table as comma-separated lines in the manner of RFC 4180: a header line, then all fields of each record in table order".
-use Rattle.std.specs.Prelude.{ℕ, zero, suc, Bool, ◌&&◌, List, [], ◌∷◌, ◌++◌}
+use Rattle.std.specs.Prelude.{ℕ, zero, suc, Bool, ◌&&◌, List, [], ◌∷◌, ◌++◌, Result}
 use Rattle.record.specs.Fields.{count_of, public_of, private_of, server_of}
 use Rattle.blocks.specs.Blocks.{block_of, first_bad}
-use Rattle.blocks.specs.declared.Checked.{Checked}
 use Rattle.quoting.specs.Quoted.{listable}
 use Rattle.rows.specs.Row.{row_of, line_of}
 
@@ -29,5 +28,5 @@ unfoldable pub listable_at : List ℕ → ℕ → Bool
 listable_at t k = listable (public_of (block_of t k)) && listable (private_of (block_of t k)) && listable (server_of (block_of t k))
 
 -- the first record with a name that cannot be listed, and the count where there is none
-unfoldable pub first_unlisted : List ℕ → ℕ → Checked
+unfoldable pub first_unlisted : List ℕ → ℕ → Result ℕ ℕ
 first_unlisted t count = first_bad (listable_at t) count count 1

@@ -21,11 +21,11 @@ pub const UNLISTED: u16 = 13;
 
 pub const TOO_SHORT: u16 = 15;
 
-// How many bytes were written, or a refusal's number with what it returns besides: a block, or a line.
-#[derive(Clone, Copy)]
-pub enum Listed {
-    Written(u32),
-    Refused { number: u16, value: u32 },
+// Why nothing was written: a refusal's number, with what it returns besides, a block or a line.
+#[derive(Clone, Copy, PartialEq, Eq)]
+pub struct Refusal {
+    pub number: u16,
+    pub value: u32,
 }
 
 // Writes the first line.
@@ -56,15 +56,12 @@ fn first_unlisted(t: &[u8], count: usize) -> Checked
     requires { (count ≤ 4096) × (length t.now ≡ 512 * (count + 1)) }
     ensures { result ≡ first_unlisted t.now count }
 {
-    let mut k = 1;
-    while k <= count {
-        if listable_at(t, k) {
-            k += 1;
-        } else {
-            return Checked::Bad(k as u32);
+    for k in 1..count + 1 {
+        if !listable_at(t, k) {
+            return Err(k as u32);
         }
     }
-    Checked::Sound(count as u32)
+    Ok(count as u32)
 }
 
 // How long the line of record k is.
@@ -117,37 +114,37 @@ fn put_list(out: &mut [u8], t: &[u8], count: usize)
 }
 
 // Writes the list if the area holds it.
-fn write(list: &mut [u8], t: &[u8], count: usize) -> Listed
+fn write(list: &mut [u8], t: &[u8], count: usize) -> Result<u32, Refusal>
     requires { SoundTable t.now count }
     ensures { came result list.new ≡ writing list.old (list_of t.now) }
 {
     let size = list_size(t, count);
     if list.len() < size {
-        return Listed::Refused {
+        return Err(Refusal {
             number: TOO_SHORT,
             value: 0,
-        };
+        });
     }
     put_list(list, t, count);
-    Listed::Written(size as u32)
+    Ok(size as u32)
 }
 
 // What follows from the first record with a name that cannot be listed.
-fn export_past(list: &mut [u8], t: &[u8], count: usize, names: Checked) -> Listed
+fn export_past(list: &mut [u8], t: &[u8], count: usize, names: Checked) -> Result<u32, Refusal>
     requires { SoundTable t.now count }
     ensures { came result list.new ≡ export_past t.now list.old names }
 {
     match names {
-        Checked::Sound(_) => write(list, t, count),
-        Checked::Bad(value) => Listed::Refused {
+        Ok(_) => write(list, t, count),
+        Err(value) => Err(Refusal {
             number: UNLISTED,
             value,
-        },
+        }),
     }
 }
 
 // A sound table, which is listed if it is of edition 2.
-fn export_sound(list: &mut [u8], t: &[u8], count: usize) -> Listed
+fn export_sound(list: &mut [u8], t: &[u8], count: usize) -> Result<u32, Refusal>
     requires { SoundTable t.now count }
     ensures { came result list.new ≡ export_sound t.now list.old count }
 {
@@ -155,28 +152,28 @@ fn export_sound(list: &mut [u8], t: &[u8], count: usize) -> Listed
         let names = first_unlisted(t, count);
         return export_past(list, t, count, names);
     }
-    Listed::Refused {
+    Err(Refusal {
         number: UNSOUND,
         value: 0,
-    }
+    })
 }
 
 // A table that was checked.
-fn export_checked(list: &mut [u8], t: &[u8], file: usize, c: Checked) -> Listed
+fn export_checked(list: &mut [u8], t: &[u8], file: usize, c: Checked) -> Result<u32, Refusal>
     requires { c ≡ check_table t.now file }
     ensures { came result list.new ≡ export_checked t.now list.old c }
 {
     match c {
-        Checked::Sound(count) => export_sound(list, t, count as usize),
-        Checked::Bad(value) => Listed::Refused {
+        Ok(count) => export_sound(list, t, count as usize),
+        Err(value) => Err(Refusal {
             number: UNSOUND,
             value,
-        },
+        }),
     }
 }
 
 // The list of a table, beside a profile file of such a length.
-pub fn export(t: &[u8], file: usize, list: &mut [u8]) -> Listed
+pub fn export(t: &[u8], file: usize, list: &mut [u8]) -> Result<u32, Refusal>
     ensures { came result list.new ≡ exported t.now file list.old }
 {
     let c = table::check(t, file);

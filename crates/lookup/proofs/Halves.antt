@@ -1,9 +1,10 @@
 -- Halving in public identities that rise: what is left out holds no such name, so it finds what a scan finds.
+use Rattle.std.specs.Prelude.{Option, Some, None}
 use Rattle.octets.specs.Standard.{ℕ, zero, suc, ◌+◌, ◌-◌, ◌<◌, ◌≤◌, Bool, true, false, ◌≡◌, refl, sym, ◌∙◌, ap, ◌↔◌, List, arith, ltb, ltb-true}
 use Rattle.octets.specs.Standard.{ltb-false}
 use Rattle.octets.specs.Name.{order_of, same}
-use Rattle.octets.specs.declared.name.Order.{Order}
-use Rattle.octets.specs.declared.name.Order.TheVariants.{Less, Equal, Greater}
+use Rattle.std.specs.declared.cmp.Ordering.{Ordering}
+use Rattle.std.specs.declared.cmp.Ordering.TheVariants.{Less, Equal, Greater}
 use Rattle.octets.proofs.Names.{same_eq, same_yes, same_no, order_eq, order_flip, order_trans, less_differs}
 use Rattle.record.specs.Fields.{public_of}
 use Rattle.blocks.specs.Blocks.{block_of}
@@ -11,8 +12,6 @@ use Rattle.table.specs.Named.{public_at}
 use Rattle.table.specs.SoundTable.{SoundTable}
 use Rattle.table.proofs.Sound.{sound_rises}
 use Rattle.lookup.specs.Find.{first_from, public_is, find_public}
-use Rattle.lookup.specs.declared.Found.{Found}
-use Rattle.lookup.specs.declared.Found.TheVariants.{At, Nothing}
 use Rattle.lookup.proofs.First.{first_skip, first_short, first_hit, first_at, first_none, first_fails, first_stands, first_same, FirstAt}
 
 module _ (t : List ℕ) (count : ℕ) (sound : SoundTable t count) where
@@ -63,7 +62,7 @@ module _ (t : List ℕ) (count : ℕ) (sound : SoundTable t count) where
         same_no _ _ (less_differs _ _ (rw q at (rising_later j k a b to)))
 
 -- The turns of the halving: the scan of the part from low up to high gives the answer of the whole.
-module _ (t : List ℕ) (count : ℕ) (name : List ℕ) (low high k : ℕ) {whole : Found} {b n : List ℕ} {o : Order} (sound : SoundTable t count)
+module _ (t : List ℕ) (count : ℕ) (name : List ℕ) (low high k : ℕ) {whole : Option ℕ} {b n : List ℕ} {o : Ordering} (sound : SoundTable t count)
     (left : whole ≡ first_from (public_is t name) (high - low) low) (at : b ≡ block_of t k) (is : n ≡ public_of b) (order : o ≡ order_of n name)
     (one : 1 ≤ low) (end : high ≤ count + 1) (above : low ≤ k) (below : k < high) where
   order_at : order_of (public_at t k) name ≡ o
@@ -92,7 +91,7 @@ module _ (t : List ℕ) (count : ℕ) (name : List ℕ) (low high k : ℕ) {whol
             (λ j u v. above_no t count sound name k (omega arith) (omega arith) (order_at ∙ e) j (omega arith) (omega arith)),
       )
 
-  pub halves_equal : o ≡ Equal → At k ≡ whole
+  pub halves_equal : o ≡ Equal → Some k ≡ whole
   unfolding public_is
   halves_equal e =
       let m : high - low ≡ (k - low) + suc (high - k - 1) = omega arith in
@@ -103,9 +102,9 @@ module _ (t : List ℕ) (count : ℕ) (name : List ℕ) (low high k : ℕ) {whol
       (first_hit (public_is t name) (k - low) (high - k - 1) low
       (λ j u v. before_no t count sound name k (omega arith) (omega arith) (order_at ∙ e) j (omega arith) (omega arith))
       (rw q (same_yes _ _ (order_eq _ _ (order_at ∙ e))))
-      ∙ ap At q))
+      ∙ ap Some q))
 
-pub halves_none : (t name : List ℕ) (low high : ℕ) {whole : Found} → whole ≡ first_from (public_is t name) (high - low) low → high ≤ low → Nothing ≡ whole
+pub halves_none : (t name : List ℕ) (low high : ℕ) {whole : Option ℕ} → whole ≡ first_from (public_is t name) (high - low) low → high ≤ low → None ≡ whole
 unfolding first_from
 halves_none t name low high left h = let m : high - low ≡ 0 = omega arith in rw (left, m)
 
@@ -117,7 +116,7 @@ pub record Only (t : List ℕ) (count : ℕ) (name : List ℕ) (k : ℕ) : Type 
   pub alone : (j : ℕ) → 1 ≤ j → j ≤ count → public_at t j ≡ name → j ≡ k
 
 module _ (t : List ℕ) (count : ℕ) (name : List ℕ) where
-  pub found_only : SoundTable t count → (k : ℕ) → find_public t count name ≡ At k → Only t count name k
+  pub found_only : SoundTable t count → (k : ℕ) → find_public t count name ≡ Some k → Only t count name k
   unfolding find_public public_is
   found_only sound k e =
       let s : FirstAt (public_is t name) count 1 k = first_stands (public_is t name) count 1 k e in
@@ -125,13 +124,13 @@ module _ (t : List ℕ) (count : ℕ) (name : List ℕ) where
       let to : k ≤ count = omega (arith, s.to) in
       record { from = s.from; to = to; named = is; alone = λ j a b q. one_block t count sound j k a s.from b to (q ∙ sym is) }
 
-  pub only_found : (k : ℕ) → Only t count name k → find_public t count name ≡ At k
+  pub only_found : (k : ℕ) → Only t count name k → find_public t count name ≡ Some k
   unfolding find_public public_is
   only_found k o =
       first_at (public_is t name) count k o.from o.to (same_yes _ _ o.named)
       (λ j a b. same_no _ _ (λ q. let i : j ≡ k = o.alone j a (omega (arith, o.to)) q in omega arith))
 
-  pub found_no : find_public t count name ≡ Nothing → (j : ℕ) → 1 ≤ j → j ≤ count → public_at t j ≡ name → ⊥
+  pub found_no : find_public t count name ≡ None → (j : ℕ) → 1 ≤ j → j ≤ count → public_at t j ≡ name → ⊥
   unfolding find_public public_is
   found_no e j a b q =
       let f : public_is t name j ≡ false = first_fails (public_is t name) count 1 e j a (omega arith) in
@@ -140,7 +139,7 @@ module _ (t : List ℕ) (count : ℕ) (name : List ℕ) where
       let n : ◌≡◌ {A = ℕ} 0 1 = cc in
       omega arith
 
-  pub no_found : ((j : ℕ) → 1 ≤ j → j ≤ count → public_at t j ≡ name → ⊥) → find_public t count name ≡ Nothing
+  pub no_found : ((j : ℕ) → 1 ≤ j → j ≤ count → public_at t j ≡ name → ⊥) → find_public t count name ≡ None
   unfolding find_public public_is
   no_found h = first_none (public_is t name) count 1 (λ j a b. same_no _ _ (h j a (omega arith)))
 
@@ -152,8 +151,8 @@ find_alike x t count name h = first_same (public_is x name) (public_is t name) c
 
 -- The search by halving, whose contract is the scan, answers a record exactly if that record alone has the name, and none exactly if no record has it.
 module _ (t : List ℕ) (count : ℕ) (name : List ℕ) where
-  pub sound_found : SoundTable t count → (k : ℕ) → (find_public t count name ≡ At k) ↔ Only t count name k
+  pub sound_found : SoundTable t count → (k : ℕ) → (find_public t count name ≡ Some k) ↔ Only t count name k
   sound_found s k = (λ e. found_only t count name s k e, λ o. only_found t count name k o)
 
-  pub sound_missing : (find_public t count name ≡ Nothing) ↔ ((j : ℕ) → 1 ≤ j → j ≤ count → public_at t j ≡ name → ⊥)
+  pub sound_missing : (find_public t count name ≡ None) ↔ ((j : ℕ) → 1 ≤ j → j ≤ count → public_at t j ≡ name → ⊥)
   sound_missing = (λ e. found_no t count name e, λ h. no_found t count name h)

@@ -6,17 +6,6 @@ ghost use Rattle.markup.specs.Escapes.{escape_of, escaped};
 
 use octets::run;
 
-// The five characters.
-const AMPERSAND: u8 = b'&';
-
-const LESS: u8 = b'<';
-
-const GREATER: u8 = b'>';
-
-const QUOTE: u8 = b'"';
-
-const APOSTROPHE: u8 = b'\'';
-
 // Bytes as they are.
 pub fn put_text(out: &mut [u8], text: &[u8]) -> usize
     requires { length text.now ≤ length out.old }
@@ -35,17 +24,17 @@ pub fn put_byte(out: &mut [u8], x: u8) -> usize
     1
 }
 
-// What is sent for a byte.
+// What is sent for a byte: the five characters are escaped.
 fn put_escape(out: &mut [u8], x: u8) -> usize
     requires { length (escape_of x) ≤ length out.old }
     ensures { (result ≤ 6) × Wrote (escape_of x) out.old out.new result }
 {
     match x {
-        AMPERSAND => put_text(out, b"&amp;"),
-        LESS => put_text(out, b"&lt;"),
-        GREATER => put_text(out, b"&gt;"),
-        QUOTE => put_text(out, b"&quot;"),
-        APOSTROPHE => put_text(out, b"&apos;"),
+        b'&' => put_text(out, b"&amp;"),
+        b'<' => put_text(out, b"&lt;"),
+        b'>' => put_text(out, b"&gt;"),
+        b'"' => put_text(out, b"&quot;"),
+        b'\'' => put_text(out, b"&apos;"),
         _ => put_byte(out, x),
     }
 }
@@ -56,8 +45,8 @@ pub fn put_escaped(out: &mut [u8], name: &[u8]) -> usize
     ensures { (result ≤ length out.old) × Wrote (escaped name.now) out.old out.new result }
 {
     let mut at = 0;
-    for i in 0..name.len() {
-        at += put_escape(&mut out[at..], name[i]);
+    for x in name {
+        at += put_escape(&mut out[at..], *x);
     }
     at
 }

@@ -1,4 +1,5 @@
 -- A sound table is of one edition and one issue number throughout; of one that mixes them the later block is blamed.
+use Rattle.std.specs.Prelude.{Ok, Err}
 use Rattle.octets.specs.Standard.{ℕ, ◌+◌, ◌*◌, ◌≤◌, Bool, true, false, ◌≢◌, ◌⊎◌, inl, inr, ◌≡◌, refl, List, arith, length, eq-eqb, le-leb}
 use Rattle.record.specs.Fields.{edition_of, issue_of}
 use Rattle.record.specs.HeaderBlock.{header_of}
@@ -6,14 +7,13 @@ use Rattle.record.specs.RecordBlock.{sound_record}
 use Rattle.record.specs.declared.header.Header.{Header}
 use Rattle.blocks.specs.Blocks.{block_of}
 use Rattle.table.specs.Check.{stands_at, sound_at, check_records, check_table}
-use Rattle.blocks.specs.declared.Checked.TheVariants.{Sound, Bad}
 use Rattle.table.proofs.Heads.{record_edition, record_issue}
 use Rattle.table.proofs.Sound.{table_says}
 use Rattle.moving.specs.Conditions.{Mixes}
 use Rattle.blocks.proofs.First.{FirstNot, bad_holds}
 use Rattle.moving.proofs.Moved.{each_edition, each_issue}
 
-pub throughout : (t : List ℕ) (file count k : ℕ) → check_table t file ≡ Sound count → k ≤ count
+pub throughout : (t : List ℕ) (file count k : ℕ) → check_table t file ≡ Ok count → k ≤ count
     → (edition_of (block_of t k) ≡ edition_of (block_of t 0)) × (issue_of (block_of t k) ≡ issue_of (block_of t 0))
 throughout t file count k e h =
     let was = table_says t file count e in
@@ -39,7 +39,7 @@ module _ (t : List ℕ) (file k : ℕ) (m : Mixes t file k) where
   first : FirstNot (sound_at t h file) h.count 1 k
   first = record { from = m.from; to = omega (arith, m.to); here = here; before = m.before }
 
-  pub mixed : check_table t file ≡ Bad k
+  pub mixed : check_table t file ≡ Err k
   unfolding check_table check_records
   mixed =
       rw (m.header, le-leb 512 (length t) (omega (arith, m.size)), eq-eqb (length t) (512 * (h.count + 1)) m.size)

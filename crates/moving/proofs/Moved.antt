@@ -1,4 +1,5 @@
 -- A table that was moved, by its blocks: what it keeps, that it is as sound as it was, and there and back.
+use Rattle.std.specs.Prelude.{Ok}
 use Rattle.octets.specs.Standard.{ℕ, suc, ◌+◌, ◌*◌, ◌^◌, ◌<◌, ◌≤◌, Bool, true, false, ◌&&◌, ◌||◌, ◌≡◌, refl, sym, ◌∙◌, ap, List, arith, eqb, leb}
 use Rattle.octets.specs.Standard.{length, leb-true, leb-false}
 use Rattle.octets.specs.Sum.{sum_words}
@@ -13,7 +14,6 @@ use Rattle.record.proofs.Tests.{record_holds, HeaderTests, header_says}
 use Rattle.blocks.specs.Blocks.{block_of}
 use Rattle.table.specs.Named.{public_at}
 use Rattle.table.specs.Check.{rises_at, stands_at, agrees_at, sound_at, check_table}
-use Rattle.blocks.specs.declared.Checked.TheVariants.{Sound}
 use Rattle.table.proofs.Agreement.{agrees_alike}
 use Rattle.table.proofs.Rising.{rises_alike}
 use Rattle.blocks.proofs.Blocks.{block_length, block_bytes, table_is, table_same}
@@ -166,7 +166,7 @@ module _ (t : List ℕ) (file count edition issue : ℕ) (was : TableTests t fil
   moved_tests =
       record { size = moved_size t count edition issue was.size ∙ was.size; counted = rw head_is was.counted; header = header_sound; each = at_sound }
 
-  pub moved_sound : check_table y file ≡ Sound count
+  pub moved_sound : check_table y file ≡ Ok count
   moved_sound = table_holds y file count moved_tests
 
   pub moved_header : edition_of (block_of y 0) ≡ edition

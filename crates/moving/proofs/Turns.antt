@@ -1,34 +1,22 @@
 -- What the functions that write leave: a block, a block of a table, and the turns of the loop over all of them; the first record with a set.
 use Rattle.octets.specs.Standard.{ℕ, suc, ◌+◌, ◌-◌, ◌*◌, ◌<◌, ◌≤◌, Bool, true, ◌≡◌, sym, ◌∙◌, ap, List, arith, add-sub_cancel, eqb, length, set}
-use Rattle.octets.specs.Standard.{length-set, mid_of, put_mid}
+use Rattle.octets.specs.Standard.{length-set}
 use Rattle.octets.specs.Number.{be16_at, put_be32}
 use Rattle.blocks.specs.Blocks.{block_of, first_bad}
 use Rattle.blocks.specs.Sealed.{sealed}
 use Rattle.blocks.specs.Changed.{changed_all, changed_in}
-use Rattle.blocks.proofs.Sealed.{sealed_length}
-use Rattle.blocks.proofs.Changed.{block_put, in_length, up_to, turns_none, turns_next, turns_end}
+use Rattle.blocks.proofs.Changed.{in_length, up_to, turns_none, turns_next, turns_end}
 use Rattle.moving.specs.Moves.{moved, moved_all, no_set, first_set}
-use Rattle.moving.proofs.Bytes.{drafted_length, moved_whole}
+use Rattle.moving.proofs.Bytes.{moved_whole}
 
 -- A block: the edition, the issue number, the check word.
 module _ (b : List ℕ) (edition issue : ℕ) (whole : length b ≡ 512) where
   pub move_fits : 408 + 4 ≤ length (set b 1 edition)
   move_fits = rw length-set (omega arith)
 
-  pub move_draft : {x : List ℕ} → x ≡ put_be32 (set b 1 edition) 408 issue → length x ≡ 512
-  move_draft e = ap length e ∙ drafted_length edition issue b ∙ whole
-
-  pub move_kept : {x y : List ℕ} → x ≡ put_be32 (set b 1 edition) 408 issue → y ≡ sealed x → length y ≡ length b
-  move_kept {x} e f = ap length f ∙ sealed_length x ∙ move_draft e ∙ sym whole
-
   pub move_put : {x y : List ℕ} → x ≡ put_be32 (set b 1 edition) 408 issue → y ≡ sealed x → y ≡ moved edition issue b
   unfolding moved
   move_put e f = rw (← e) f
-
--- A block of a table, lent and come back.
-pub move_lent : (t : List ℕ) (k edition issue : ℕ) {y : List ℕ} → y ≡ moved edition issue (mid_of (512 * k) (512 * k + 512 - 512 * k) t)
-    → put_mid (512 * k) (512 * k + 512 - 512 * k) t y ≡ changed_in t k (moved edition issue)
-move_lent t k edition issue e = block_put (moved edition issue) t k e
 
 -- The turns of the loop: the first k blocks are moved.
 abbrev every : ℕ → Bool

@@ -1,4 +1,5 @@
 -- Moves of a small table, computed by the definitions, and each theorem of the page at it.
+use Rattle.std.specs.Prelude.{Ok, Err}
 use Rattle.octets.specs.Standard.{ℕ, ◌+◌, ◌*◌, ◌≤◌, true, List, [], ◌∷◌, ◌++◌, ◌≡◌, refl, sym, ap, ◌∙◌, inl, arith, lit<, lit≤, length, replicate}
 use Rattle.octets.specs.Standard.{set, sets}
 use Rattle.octets.specs.All.{all_below}
@@ -14,13 +15,11 @@ use Rattle.record.specs.RecordBlock.{record_of, sound_record}
 use Rattle.blocks.specs.Blocks.{block_of, table_of, first_bad}
 use Rattle.table.specs.Named.{public_at}
 use Rattle.table.specs.Check.{rises_at, stands_at, agrees_with, agrees_at, sound_at, check_records, check_table}
-use Rattle.blocks.specs.declared.Checked.TheVariants.{Sound, Bad}
 use Rattle.blocks.specs.Sealed.{negated, sealed}
 use Rattle.blocks.specs.Changed.{changed_at, changed_all}
 use Rattle.moving.specs.Moves.{moved, moved_all, no_set, first_set}
-use Rattle.moving.specs.Outcomes.{came, refusing, moving, forward_sound, back_past, back_sound, forward_checked, back_checked, forward, back}
+use Rattle.moving.specs.Outcomes.{Move, came, refusing, moving, forward_sound, back_past, back_sound, forward_checked, back_checked, forward, back}
 use Rattle.moving.specs.Conditions.{OtherEdition, HasSets, WithoutSets, Mixes, ForwardMoves, BackMoves, ForwardRefuses, BackRefuses, TableMoved}
-use Rattle.moving.specs.declared.Move.TheVariants.{Moved}
 use Rattle.moving.proofs.Moving as page
 
 -- A header of one record with host `h` and realm `r`; record 1, public identity `a`, private identity `p`, in state 1 at `s`; of an edition and an issue
@@ -61,23 +60,23 @@ unfolding header line first second shared mixed reissued all_below order_of be16
 opened = 0
 
 -- The definitions compute: the tables are what the document says of them, and the moves are from one to the other.
-first_checked : check_table first 0 ≡ Sound 1
+first_checked : check_table first 0 ≡ Ok 1
 unfolding opened
 first_checked = refl
 
-second_checked : check_table second 0 ≡ Sound 1
+second_checked : check_table second 0 ≡ Ok 1
 unfolding opened
 second_checked = refl
 
-shared_checked : check_table shared 0 ≡ Sound 1
+shared_checked : check_table shared 0 ≡ Ok 1
 unfolding opened
 shared_checked = refl
 
-mixed_checked : check_table mixed 0 ≡ Bad 1
+mixed_checked : check_table mixed 0 ≡ Err 1
 unfolding opened
 mixed_checked = refl
 
-reissued_checked : check_table reissued 0 ≡ Bad 1
+reissued_checked : check_table reissued 0 ≡ Err 1
 unfolding opened
 reissued_checked = refl
 
@@ -184,23 +183,23 @@ mixed_mixes =
 met_throughout : issue_of (block_of second 1) ≡ 0x01020304
 met_throughout = (page.throughout second 0 1 1 second_checked (lit≤ tt)).1 ∙ second_issue
 
-met_mixed_blamed : check_table mixed 0 ≡ Bad 1
+met_mixed_blamed : check_table mixed 0 ≡ Err 1
 met_mixed_blamed = page.mixed_blamed mixed 0 1 mixed_mixes
 
 met_first_sets : set_of (block_of first 1) ≡ 0
 met_first_sets = page.first_sets first 0 1 first_checked first_edition 1 (lit≤ tt) (lit≤ tt)
 
-met_there_and_back : back (forward first 0 0x01020304).table 0 ≡ came (Moved 1) first
+met_there_and_back : back (forward first 0 0x01020304).table 0 ≡ came (Ok 1) first
 met_there_and_back = page.there_and_back first 0 1 0x01020304 first_bytes (lit< tt) first_checked first_edition
 
-met_back_and_there : forward (back second 0).table 0 (issue_of (block_of second 0)) ≡ came (Moved 1) second
+met_back_and_there : forward (back second 0).table 0 (issue_of (block_of second 0)) ≡ came (Ok 1) second
 met_back_and_there = page.back_and_there second 0 1 second_bytes second_checked second_edition second_none
 
-met_first : forward first 0 0x01020304 ≡ came (Moved 1) second
-met_first = page.forward_moves first 0 0x01020304 1 first_checked first_edition ∙ ap (came (Moved 1)) first_moved
+met_first : forward first 0 0x01020304 ≡ came (Ok 1) second
+met_first = page.forward_moves first 0 0x01020304 1 first_checked first_edition ∙ ap (came (Ok 1)) first_moved
 
-met_second : back second 0 ≡ came (Moved 1) first
-met_second = page.back_moves second 0 1 second_checked second_edition second_none ∙ ap (came (Moved 1)) second_moved
+met_second : back second 0 ≡ came (Ok 1) first
+met_second = page.back_moves second 0 1 second_checked second_edition second_none ∙ ap (came (Ok 1)) second_moved
 
 met_forward_moves : forward first 0 7 ≡ moving first 1 2 7
 met_forward_moves = page.forward_moves first 0 7 1 first_checked first_edition
@@ -214,10 +213,10 @@ met_forward_moved = page.forward_moved first 0 7 1 (rw met_forward_moves refl)
 met_back_moved : BackMoves second 0 1 (back second 0)
 met_back_moved = page.back_moved second 0 1 (rw met_back_moves refl)
 
-met_forward_sound : check_table (forward first 0 7).table 0 ≡ Sound 1
+met_forward_sound : check_table (forward first 0 7).table 0 ≡ Ok 1
 met_forward_sound = page.forward_sound_lem first 0 7 1 (lit< tt) (rw met_forward_moves refl)
 
-met_back_sound : check_table (back second 0).table 0 ≡ Sound 1
+met_back_sound : check_table (back second 0).table 0 ≡ Ok 1
 met_back_sound = page.back_sound_lem second 0 1 (rw met_back_moves refl)
 
 met_forward_keeps : TableMoved first (forward first 0 7).table 1 2 7
@@ -260,5 +259,5 @@ met_forward_leaves = page.forward_leaves mixed 0 7 5 1 (rw met_forward_unsound r
 met_back_leaves : (back shared 0).table ≡ shared
 met_back_leaves = page.back_leaves shared 0 8 1 (rw met_back_sets refl)
 
-met_unique : (Moved 1 ≡ Moved 1) × (second ≡ second)
+met_unique : ◌≡◌ {A = Move} (Ok 1) (Ok 1) × (second ≡ second)
 met_unique = page.unique (forward first 0 0x01020304) (sym met_first) (sym met_first)

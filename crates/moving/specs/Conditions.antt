@@ -1,19 +1,18 @@
 -- When a move is made and when it is refused, and what is the same afterwards.
-use Rattle.std.specs.Prelude.{ℕ, ◌+◌, ◌*◌, ◌<◌, ◌≤◌, true, List, ◌≢◌, ◌⊎◌, ◌≡◌, length}
+use Rattle.std.specs.Prelude.{ℕ, ◌+◌, ◌*◌, ◌<◌, ◌≤◌, true, List, ◌≢◌, ◌⊎◌, ◌≡◌, length, Ok, Err}
 use Rattle.record.specs.Fields.{edition_of, issue_of, set_of, networks_of, host_of, realm_of, public_of, private_of, server_of, mandatory_of, optional_of, profile_of}
 use Rattle.record.specs.HeaderBlock.{header_of, sound_header}
 use Rattle.record.specs.Networks.{network_of}
 use Rattle.record.specs.RecordBlock.{record_of}
 use Rattle.blocks.specs.Blocks.{block_of}
 use Rattle.table.specs.Check.{sound_at, check_table}
-use Rattle.blocks.specs.declared.Checked.TheVariants.{Sound, Bad}
 use Rattle.moving.specs.Carried.{Carried, record_with, header_with}
 use Rattle.moving.specs.Outcomes.{AfterMove, moving}
 
 -- the conditions of the refusals: a sound table of another edition; the first record with a set; a sound table of edition 2 that has one
 pub record OtherEdition (t : List ℕ) (file edition : ℕ) : Type 0 where
   pub count : ℕ
-  pub checked : check_table t file ≡ Sound count
+  pub checked : check_table t file ≡ Ok count
   pub other : edition_of (block_of t 0) ≢ edition
 
 pub record FirstWithSet (t : List ℕ) (count k : ℕ) : Type 0 where
@@ -24,7 +23,7 @@ pub record FirstWithSet (t : List ℕ) (count k : ℕ) : Type 0 where
 
 pub record HasSets (t : List ℕ) (file k : ℕ) : Type 0 where
   pub count : ℕ
-  pub checked : check_table t file ≡ Sound count
+  pub checked : check_table t file ≡ Ok count
   pub edition : edition_of (block_of t 0) ≡ 2
   pub first : FirstWithSet t count k
 
@@ -43,22 +42,22 @@ pub record Mixes (t : List ℕ) (file k : ℕ) : Type 0 where
 
 -- a move that was made, and one that was refused, with their conditions
 pub record ForwardMoves (t : List ℕ) (file issue count : ℕ) (o : AfterMove) : Type 0 where
-  pub checked : check_table t file ≡ Sound count
+  pub checked : check_table t file ≡ Ok count
   pub edition : edition_of (block_of t 0) ≡ 1
   pub is : o ≡ moving t count 2 issue
 
 pub record BackMoves (t : List ℕ) (file count : ℕ) (o : AfterMove) : Type 0 where
-  pub checked : check_table t file ≡ Sound count
+  pub checked : check_table t file ≡ Ok count
   pub edition : edition_of (block_of t 0) ≡ 2
   pub sets : WithoutSets t count
   pub is : o ≡ moving t count 1 0
 
 abbrev pub ForwardRefuses : List ℕ → ℕ → ℕ → ℕ → Type 0
-ForwardRefuses t file number block = (number ≡ 5) × ((check_table t file ≡ Bad block) ⊎ (OtherEdition t file 1 × (block ≡ 0)))
+ForwardRefuses t file number block = (number ≡ 5) × ((check_table t file ≡ Err block) ⊎ (OtherEdition t file 1 × (block ≡ 0)))
 
 abbrev pub BackRefuses : List ℕ → ℕ → ℕ → ℕ → Type 0
 BackRefuses t file number block =
-    ((number ≡ 5) × ((check_table t file ≡ Bad block) ⊎ (OtherEdition t file 2 × (block ≡ 0)))) ⊎ ((number ≡ 8) × HasSets t file block)
+    ((number ≡ 5) × ((check_table t file ≡ Err block) ⊎ (OtherEdition t file 2 × (block ≡ 0)))) ⊎ ((number ≡ 8) × HasSets t file block)
 
 -- what a record and a header are after a move: all fields as they were but the edition and the issue number
 pub record RecordMoved (b c : List ℕ) (edition issue : ℕ) : Type 0 where

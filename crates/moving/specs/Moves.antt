@@ -1,10 +1,9 @@
 -- 02 [5]: "the move from edition 1 to 2, given an issue number, and the move back, in place"
-use Rattle.std.specs.Prelude.{ℕ, suc, Bool, true, List, eqb, set}
+use Rattle.std.specs.Prelude.{ℕ, suc, Bool, true, List, eqb, set, Result}
 use Rattle.octets.specs.Number.{put_be32}
 use Rattle.record.specs.Fields.{set_of}
 use Rattle.blocks.specs.Blocks.{block_of}
 use Rattle.blocks.specs.Blocks.{first_bad}
-use Rattle.blocks.specs.declared.Checked.{Checked}
 use Rattle.blocks.specs.Sealed.{sealed}
 use Rattle.blocks.specs.Changed.{changed_all}
 
@@ -21,5 +20,5 @@ unfoldable pub no_set : List ℕ → ℕ → Bool
 no_set t k = eqb (set_of (block_of t k)) 0
 
 -- "8, move back while some set number is not 0, with the first such block"
-unfoldable pub first_set : List ℕ → ℕ → Checked
+unfoldable pub first_set : List ℕ → ℕ → Result ℕ ℕ
 first_set t count = first_bad (no_set t) count count 1

@@ -1,45 +1,43 @@
 -- The word of each answer, and the promise from its parts.
+use Rattle.std.specs.Prelude.{Result}
+use Rattle.refusals.specs.declared.Refusal.{Refusal}
+use Rattle.deciding.specs.declared.Told.{Told}
 use Rattle.octets.specs.Standard.{ℕ, Bool, true, false, cond, ◌≡◌, ◌∙◌, ap, List, length}
 use Rattle.table.specs.Area.{check_area}
-use Rattle.blocks.specs.declared.Checked.{Checked}
 use Rattle.vectors.specs.VectorFile.{check_vectors}
 use Rattle.calling.specs.Leaves.{call_of, Comes}
 use Rattle.calling.specs.Lent.{Lent}
 use Rattle.calling.specs.Serve.{serve}
-use Rattle.calling.specs.declared.Came.{Came}
 use Rattle.plain_calling.specs.Comes as plain
-use Rattle.plain_calling.specs.declared.Came as came
-use Rattle.moving.specs.Outcomes.{AfterMove, came, forward, back}
-use Rattle.moving.specs.declared.Move.{Move}
+use Rattle.plain_deciding.specs.declared.Said.{Said}
+use Rattle.moving.specs.Outcomes.{AfterMove, Move, came, forward, back}
 use Rattle.reporting.specs.Counts.{Reports}
 use Rattle.reporting.specs.Report.{reported}
 use Rattle.row_of_calls.specs.Leaves.{Rows}
 use Rattle.row_of_calls.specs.Row.{rowed}
 use Rattle.row_of_calls.specs.declared.Ended.{Ended}
-use Rattle.taking.specs.TakeOver.{AfterTake, take_over}
+use Rattle.taking.specs.TakeOver.{AfterTake, Taken, take_over}
 use Rattle.taking.specs.TakeOver as taking
-use Rattle.taking.specs.declared.Taken.{Taken}
-use Rattle.listing.specs.Export.{AfterList, exported}
+use Rattle.listing.specs.Export.{AfterList, exported, Listed}
 use Rattle.listing.specs.Export as listing
-use Rattle.listing.specs.declared.Listed.{Listed}
 use Rattle.importing.specs.Import.{imported}
 use Rattle.ndushavire.specs.Word.{word, check_word, call_word, move_word, take_word, list_word, ended_word}
 use Rattle.ndushavire.specs.Promise.{CheckPromise, CheckVectorsPromise, DecidePromise, ReportPromise, ForwardPromise, BackPromise, TakePromise}
 use Rattle.ndushavire.specs.Promise.{ExportPromise, ImportPromise, RowPromise}
 
-pub check_kept : (table profile : List ℕ) (c : Checked) (r : ℕ) → c ≡ check_area table (length profile) → r ≡ check_word 5 c → CheckPromise table profile r
+pub check_kept : (table profile : List ℕ) (c : Result ℕ ℕ) (r : ℕ) → c ≡ check_area table (length profile) → r ≡ check_word 5 c → CheckPromise table profile r
 check_kept table profile c r e f = record { answer = f ∙ ap (check_word 5) e }
 
-pub vectors_kept : (vectors : List ℕ) (c : Checked) (r : ℕ) → c ≡ check_vectors vectors → r ≡ check_word 6 c → CheckVectorsPromise vectors r
+pub vectors_kept : (vectors : List ℕ) (c : Result ℕ ℕ) (r : ℕ) → c ≡ check_vectors vectors → r ≡ check_word 6 c → CheckVectorsPromise vectors r
 vectors_kept vectors c r e f = record { answer = f ∙ ap (check_word 6) e }
 
 -- The call as a word.
-pub word_promised : (x : Lent) {c : Came} {w : ℕ} {t' v' o' : List ℕ} → Comes (serve x) c t' v' o' → w ≡ call_word (call_of c) → DecidePromise x w t' v' o'
+pub word_promised : (x : Lent) {c : Result Told Refusal} {w : ℕ} {t' v' o' : List ℕ} → Comes (serve x) c t' v' o' → w ≡ call_word (call_of c) → DecidePromise x w t' v' o'
 word_promised x s e =
     record { word_is = e ∙ ap call_word s.call_is; table_is = s.table_is; vectors_is = s.vectors_is; buffer_is = s.buffer_is }
 
 -- The same of the plain engine's call.
-pub plain_promised : (x : Lent) {c : came.Came} {w : ℕ} {t' v' o' : List ℕ} → plain.Comes (serve x) c t' v' o' → w ≡ call_word (plain.call_of c)
+pub plain_promised : (x : Lent) {c : Result Said Refusal} {w : ℕ} {t' v' o' : List ℕ} → plain.Comes (serve x) c t' v' o' → w ≡ call_word (plain.call_of c)
     → DecidePromise x w t' v' o'
 plain_promised x s e =
     record { word_is = e ∙ ap call_word s.call_is; table_is = s.table_is; vectors_is = s.vectors_is; buffer_is = s.buffer_is }

@@ -1,38 +1,30 @@
 -- The word that a call returns: its number times 2^48, the place of the AVP at fault times 2^32, and what it returns besides below that.
-use Rattle.std.specs.Prelude.{ℕ, ◌+◌, Bool, cond}
-use Rattle.moving.specs.declared.Move.{Move}
-use Rattle.moving.specs.declared.Move.TheVariants as move
-use Rattle.moving.specs.declared.Move.TheVariants.{Moved}
-use Rattle.taking.specs.declared.Taken.{Taken}
-use Rattle.taking.specs.declared.Taken.TheVariants as take
-use Rattle.taking.specs.declared.Taken.TheVariants.{Took}
-use Rattle.listing.specs.declared.Listed.{Listed}
-use Rattle.listing.specs.declared.Listed.TheVariants as list
-use Rattle.listing.specs.declared.Listed.TheVariants.{Written}
-use Rattle.blocks.specs.declared.Checked.{Checked}
-use Rattle.blocks.specs.declared.Checked.TheVariants.{Sound, Bad}
+use Rattle.listing.specs.Export.{Listed}
+use Rattle.std.specs.Prelude.{ℕ, ◌+◌, Bool, cond, Result, Ok, Err}
+use Rattle.moving.specs.Outcomes.{Move}
+use Rattle.taking.specs.TakeOver.{Taken}
 use Rattle.row_of_calls.specs.Row.{Rowed}
 use Rattle.row_of_calls.specs.declared.Ended.{Ended}
 pub use Rattle.row_of_calls.specs.Word.{number_unit, place_unit, word, call_word}
 
 -- a sound file: number 0 with the count; an unsound one: its refusal's number (the table's is 5, the vector file's 6), with the first bad block
-abbrev pub check_word : ℕ → Checked → ℕ
-check_word number (Sound count) = word 0 0 count
-check_word number (Bad block) = word number 0 block
+abbrev pub check_word : ℕ → Result ℕ ℕ → ℕ
+check_word number (Ok count) = word 0 0 count
+check_word number (Err block) = word number 0 block
 
 abbrev pub move_word : Move → ℕ
-move_word (Moved count) = word 0 0 count
-move_word (move.Refused number block) = word number 0 block
+move_word (Ok count) = word 0 0 count
+move_word (Err r) = word r.number 0 r.block
 
 -- "9 .. 10 .. 11": 0 besides
 abbrev pub take_word : Taken → ℕ
-take_word (Took count) = word 0 0 count
-take_word (take.Refused number) = word number 0 0
+take_word (Ok count) = word 0 0 count
+take_word (Err r) = word r.number 0 0
 
 -- an export or an import: the bytes written; 5 and 13 with a block, 14 with a line, 15 with 0
 abbrev pub list_word : Listed → ℕ
-list_word (Written bytes) = word 0 0 bytes
-list_word (list.Refused number value) = word number 0 value
+list_word (Ok bytes) = word 0 0 bytes
+list_word (Err e) = word e.number 0 e.value
 
 -- the row's: in the place 1 if some request altered a record, 2 if some vector was marked, 3 if both; as the value, how many requests have a word. The same
 -- from what the code says of it

@@ -12,21 +12,18 @@ ghost use Rattle.ndushavire.specs.Promise.{CheckPromise, CheckVectorsPromise, De
 ghost use Rattle.ndushavire.specs.Promise.{ForwardPromise, BackPromise, TakePromise, ExportPromise, ImportPromise, VersionPromise};
 
 use blocks::Checked;
-use calling::Came;
+use deciding::Told;
 use diameter::codes;
-use listing::Listed;
-use moving::Move;
 use reading::Terms;
 use row_of_calls::Ended;
-use taking::Taken;
 
 // The word of a check's answer: a bad block has the refusal's number.
 fn check_word(number: u16, c: Checked) -> u64
     ensures { result ≡ check_word number c }
 {
     match c {
-        Checked::Sound(count) => word::of(0, 0, count),
-        Checked::Bad(block) => word::of(number, 0, block),
+        Ok(count) => word::of(0, 0, count),
+        Err(block) => word::of(number, 0, block),
     }
 }
 
@@ -46,16 +43,16 @@ pub extern "C" fn ndushavire_check(table: &[u8], profile: &[u8]) -> u64
 pub extern "C" fn ndushavire_check_vectors(vectors: &[u8]) -> u64
     ensures { CheckVectorsPromise vectors.now result }
 {
-    check_word(calling::UNSOUND_VECTORS, vectors::file::check(vectors))
+    check_word(refusals::UNSOUND_VECTORS, vectors::file::check(vectors))
 }
 
 // The word of a call.
-fn call_word(c: Came) -> u64
+fn call_word(c: Result<Told, refusals::Refusal>) -> u64
     ensures { result ≡ call_word (call_of c) }
 {
     match c {
-        Came::Answered(told) => word::of(0, told.place, told.length),
-        Came::Refused { number, besides } => word::of(number, 0, besides),
+        Ok(told) => word::of(0, told.place, told.length),
+        Err(r) => word::of(r.number(), 0, r.value()),
     }
 }
 
@@ -134,12 +131,12 @@ pub extern "C" fn ndushavire_report(
 }
 
 // The word of a move.
-fn move_word(m: Move) -> u64
+fn move_word(m: Result<u32, moving::Refusal>) -> u64
     ensures { result ≡ move_word m }
 {
     match m {
-        Move::Moved(count) => word::of(0, 0, count),
-        Move::Refused { number, block } => word::of(number, 0, block),
+        Ok(moved) => word::of(0, 0, moved),
+        Err(r) => word::of(r.number, 0, r.block),
     }
 }
 
@@ -160,12 +157,12 @@ pub extern "C" fn ndushavire_back(table: &mut [u8], profile: &[u8]) -> u64
 }
 
 // The word of a take-over.
-fn take_word(t: Taken) -> u64
+fn take_word(t: Result<u32, taking::Refusal>) -> u64
     ensures { result ≡ take_word t }
 {
     match t {
-        Taken::Took(count) => word::of(0, 0, count),
-        Taken::Refused(number) => word::of(number, 0, 0),
+        Ok(taken) => word::of(0, 0, taken),
+        Err(r) => word::of(r.number, 0, 0),
     }
 }
 
@@ -178,12 +175,12 @@ pub extern "C" fn ndushavire_take(area: &mut [u8], fresh: &[u8], profile: &[u8])
 }
 
 // The word of an export and of an import.
-fn list_word(l: Listed) -> u64
+fn list_word(l: Result<u32, listing::Refusal>) -> u64
     ensures { result ≡ list_word l }
 {
     match l {
-        Listed::Written(bytes) => word::of(0, 0, bytes),
-        Listed::Refused { number, value } => word::of(number, 0, value),
+        Ok(bytes) => word::of(0, 0, bytes),
+        Err(e) => word::of(e.number, 0, e.value),
     }
 }
 

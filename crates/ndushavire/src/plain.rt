@@ -4,13 +4,14 @@ ghost use Rattle.plain_calling.specs.Comes.{call_of};
 ghost use Rattle.ndushavire.specs.Word.{call_word};
 
 use crate::word;
-use plain_calling::Came;
+use plain_deciding::Said;
+use refusals::Refusal;
 
-pub fn call_word(c: Came) -> u64
+pub fn call_word(c: Result<Said, Refusal>) -> u64
     ensures { result ≡ call_word (call_of c) }
 {
     match c {
-        Came::Answered(said) => word::of(0, said.place, said.length),
-        Came::Refused { number, besides } => word::of(number, 0, besides),
+        Ok(said) => word::of(0, said.place, said.length),
+        Err(r) => word::of(r.number(), 0, r.value()),
     }
 }

@@ -1,7 +1,6 @@
 -- What each way through a call of the Sh server leaves.
+use Rattle.std.specs.Prelude.{Result, Ok, Err}
 use Rattle.octets.specs.Standard.{ℕ, ◌≤◌, ◌<◌, List, Bool, true, false, cond, ◌≡◌, refl, sym, ◌∙◌, ap, arith, length}
-use Rattle.blocks.specs.declared.Checked.{Checked}
-use Rattle.blocks.specs.declared.Checked.TheVariants.{Sound, Bad}
 use Rattle.table.specs.Area.{table_in, check_area}
 use Rattle.table.specs.SoundTable.{SoundTable}
 use Rattle.table.proofs.Sound.{sound_few}
@@ -9,8 +8,12 @@ use Rattle.reading.specs.declared.Dialect.{Dialect}
 use Rattle.reading.specs.declared.Terms.{Terms}
 use Rattle.requests.specs.Request.{dialect_of, under_sh}
 use Rattle.refusals.specs.Early.{unknown_peer, small_buffer, wrong_size, wrong_length, no_request, early}
+use Rattle.refusals.specs.Numbers.{number_of, number_tried}
+use Rattle.refusals.specs.Passed.{Passed}
 use Rattle.refusals.specs.Trial.{tried}
-use Rattle.refusals.proofs.Passing.{lets}
+use Rattle.refusals.specs.declared.Refusal.{Refusal}
+use Rattle.refusals.specs.declared.Refusal.TheVariants.{UnknownPeer, SmallBuffer, WrongSize, WrongLength, NoRequest, Unsound, UnsoundVectors}
+use Rattle.refusals.proofs.Passing.{lets, passes}
 use Rattle.sh.specs.Replies.{Replies}
 use Rattle.sh.specs.declared.Reply.{Reply}
 use Rattle.ndushavire.specs.Promise.{CheckPromise}
@@ -20,9 +23,23 @@ use Rattle.ndushavire_sh.specs.Lent.{Lent, lent, terms_in}
 use Rattle.ndushavire_sh.specs.Promise.{ShDecidePromise}
 use Rattle.ndushavire_sh.specs.Serve.{refused, answered, serve_checked}
 
--- the early refusals where none holds
-pub none_early : (req o : List ℕ) (peer : ℕ) (terms : Terms) {n : ℕ} → terms ≡ under_sh peer → n ≡ early terms req o → n ≤ 0 → early (under_sh peer) req o ≡ 0
-none_early req o peer terms t e h = let q = rw t at e in omega (arith, q)
+-- The early refusals where none holds.
+module _ (req o : List ℕ) (peer : ℕ) (terms : Terms) (t : terms ≡ under_sh peer) (r : Result (Unit {0}) Refusal) (is : number_tried r ≡ early terms req o)
+    (u : Unit {0}) (e : r ≡ Ok u) where
+  pub none_early : early (under_sh peer) req o ≡ 0
+  none_early = sym (rw (e, t) at is)
+
+  pub none_passes : Passed req o
+  none_passes = passes (under_sh peer) req o (sym none_early) (omega arith)
+
+number_least : (r : Refusal) → 0 < number_of r
+number_least UnknownPeer = omega arith
+number_least SmallBuffer = omega arith
+number_least WrongSize = omega arith
+number_least WrongLength = omega arith
+number_least NoRequest = omega arith
+number_least (Unsound block) = omega arith
+number_least UnsoundVectors = omega arith
 
 -- The early ones.
 module _ (req area file o : List ℕ) (peer : ℕ) where
@@ -43,37 +60,40 @@ module _ (req area file o : List ℕ) (peer : ℕ) where
       go false false false false true p f g h i z = record { word_is = rw (p, f, g, h, i); buffer_is = rw (p, f, g, h, i) }
       go false false false false false p f g h i z = absurd (omega (arith, z))
 
-  pub refuses : (terms : Terms) {n w : ℕ} → terms ≡ under_sh peer → n ≡ early terms req o → 0 < n → w ≡ word n 0 0 → ShDecidePromise x w o
-  refuses terms t e h z = let q = rw t at e in rw (z, q) (early_refuses (rw (← q) h))
+  pub refuses : (terms : Terms) (r : Result (Unit {0}) Refusal) (f : Refusal) {n w : ℕ} → terms ≡ under_sh peer → number_tried r ≡ early terms req o
+      → r ≡ Err f → n ≡ number_of f → w ≡ word n 0 0 → ShDecidePromise x w o
+  refuses terms r f t is e m z =
+      let q : number_of f ≡ early (terms_in x) req o = rw (e, t) at is in
+      rw (z, m, q) (early_refuses (rw (← q) (number_least f)))
 
 -- What the check's word says: its number is 0 for a sound table alone, with the count as its value.
 module _ (area file : List ℕ) (w : ℕ) (says : CheckPromise area file w) where
-  record Unsound : Type 0 where
+  record Bad : Type 0 where
     block : ℕ
-    is : check_area area (length file) ≡ Bad block
+    is : check_area area (length file) ≡ Err block
 
-  few : (count : ℕ) → check_area area (length file) ≡ Sound count → count ≤ 4096
+  few : (count : ℕ) → check_area area (length file) ≡ Ok count → count ≤ 4096
   unfolding check_area
   few count e = sound_few (table_in area) count (record { file = length file; checked = e })
 
-  unsound_of : (number_in w ≡ 0 → ⊥) → Unsound
+  unsound_of : (number_in w ≡ 0 → ⊥) → Bad
   unsound_of h = go (check_area area (length file)) refl
     where
-      go : (c : Checked) → check_area area (length file) ≡ c → Unsound
-      go (Bad k) e = record { block = k; is = e }
-      go (Sound count) e =
-          let q : w ≡ check_word 5 (Sound count) = says.answer ∙ ap (check_word 5) e in
+      go : (c : Result ℕ ℕ) → check_area area (length file) ≡ c → Bad
+      go (Err k) e = record { block = k; is = e }
+      go (Ok count) e =
+          let q : w ≡ check_word 5 (Ok count) = says.answer ∙ ap (check_word 5) e in
           absurd (h (omega (arith, q, few count e)))
 
-  sound_of : number_in w ≡ 0 → check_area area (length file) ≡ Sound (value_in w)
+  sound_of : number_in w ≡ 0 → check_area area (length file) ≡ Ok (value_in w)
   sound_of h = go (check_area area (length file)) refl
     where
-      go : (c : Checked) → check_area area (length file) ≡ c → check_area area (length file) ≡ Sound (value_in w)
-      go (Bad k) e =
-          let q : w ≡ check_word 5 (Bad k) = says.answer ∙ ap (check_word 5) e in
+      go : (c : Result ℕ ℕ) → check_area area (length file) ≡ c → check_area area (length file) ≡ Ok (value_in w)
+      go (Err k) e =
+          let q : w ≡ check_word 5 (Err k) = says.answer ∙ ap (check_word 5) e in
           absurd (omega (arith, q, h))
-      go (Sound count) e =
-          let q : w ≡ check_word 5 (Sound count) = says.answer ∙ ap (check_word 5) e in
+      go (Ok count) e =
+          let q : w ≡ check_word 5 (Ok count) = says.answer ∙ ap (check_word 5) e in
           let v : value_in w ≡ count = omega (arith, q, few count e) in
           rw v e
 

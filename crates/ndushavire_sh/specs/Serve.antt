@@ -1,14 +1,12 @@
 -- One call of the Sh server: what it comes to, and the buffer afterwards, for any bytes.
-use Rattle.std.specs.Prelude.{ℕ, List, [], ◌∷◌, ◌++◌, length}
+use Rattle.std.specs.Prelude.{ℕ, List, [], ◌∷◌, ◌++◌, length, Result}
 use Rattle.octets.specs.Run.{over}
-use Rattle.blocks.specs.declared.Checked.{Checked}
 use Rattle.table.specs.Area.{table_in, check_area}
 use Rattle.refusals.specs.Early.{early_trials, check_value, unsound}
 use Rattle.refusals.specs.Trial.{Trial, tried}
 use Rattle.calling.specs.Call.{Call, Answered, Refused}
 use Rattle.sh.specs.Answer.{sh_answer}
-use Rattle.sh.specs.Tell.{tell}
-use Rattle.sh.specs.declared.telling.Telling.{Telling}
+use Rattle.sh.specs.Tell.{Telling, tell}
 use Rattle.ndushavire_sh.specs.Lent.{Lent, terms_in, dialect_in}
 
 -- "The table is only read": what comes of a call is its outcome, and the buffer
@@ -17,7 +15,7 @@ pub record Served : Type 0 where
   pub buffer : List ℕ
 
 -- 12, 1 to 4, then 5 of a table that is checked so
-abbrev pub trials_of : Lent → Checked → List Trial
+abbrev pub trials_of : Lent → Result ℕ ℕ → List Trial
 trials_of x c = early_trials (terms_in x) x.request x.buffer ++ (unsound c ∷ [])
 
 -- "All leave table and buffer as they came"
@@ -39,7 +37,7 @@ answered x count =
     }
 
 -- "Tried in this order. .. Otherwise the call returns the answer's length"
-unfoldable pub serve_checked : Lent → Checked → Served
+unfoldable pub serve_checked : Lent → Result ℕ ℕ → Served
 serve_checked x c = tried (refused x) (answered x (check_value c)) (trials_of x c)
 
 abbrev pub sh_serve : Lent → Served

@@ -23,7 +23,8 @@ fn terms_of(peer: u32) -> Terms
     }
 }
 
-// A request that the first refusals let pass, over a table of which the check said so: its word is the call's where the table is unsound.
+// A request that the first refusals let pass, over a table of which the check said so: its word is the call's where the table is unsound. It is a word and
+// no Result: the first library is asked through its C interface alone.
 fn over_checked(
     checked: u64,
     req: &[u8],
@@ -57,10 +58,11 @@ pub extern "C" fn ndushavire_sh_decide(
         (lent request.now table.now profile.now answer.old peer)
         result answer.new }
 {
-    let number = refusals::early(terms_of(peer), request, answer);
-    if 0 < number {
-        return word::of(number, 0, 0);
+    match refusals::early(terms_of(peer), request, answer) {
+        Ok(()) => {
+            let checked = ndushavire::ndushavire_check(table, profile);
+            over_checked(checked, request, table, profile, answer, peer)
+        }
+        Err(r) => word::of(r.number(), 0, 0),
     }
-    let checked = ndushavire::ndushavire_check(table, profile);
-    over_checked(checked, request, table, profile, answer, peer)
 }

@@ -1,4 +1,5 @@
 -- Calls about others leave my records as they were, and all identities: a request about my subscription sees the same before and after them.
+use Rattle.std.specs.Prelude.{Ok}
 use Rattle.octets.specs.Standard.{ℕ, zero, suc, ◌≤◌, Bool, true, false, cond, ◌≡◌, refl, sym, ◌∙◌, ap, ◌≢◌, ◌⊎◌, inl, inr, some, List, [], ◌∷◌}
 use Rattle.octets.specs.Standard.{arith, length, ◌<◌, get_or}
 use Rattle.octets.specs.Name.{same}
@@ -7,7 +8,6 @@ use Rattle.octets.proofs.Parts.{part_alike}
 use Rattle.record.specs.Fields.{public_size, private_size, public_of, private_of}
 use Rattle.blocks.specs.Blocks.{block_of}
 use Rattle.blocks.proofs.Blocks.{block_length}
-use Rattle.blocks.specs.declared.Checked.TheVariants.{Sound}
 use Rattle.table.specs.Area.{table_in, check_area}
 use Rattle.table.specs.Check.{check_table}
 use Rattle.table.specs.Named.{private_at}
@@ -98,7 +98,7 @@ module _ (mine : List ℕ) where
       terms : x.terms ≡ y.terms
       buffer : x.buffer ≡ y.buffer
       vectors : check_vectors x.vectors ≡ check_vectors y.vectors
-      sound : check_area y.table (length y.profile) ≡ Sound count
+      sound : check_area y.table (length y.profile) ≡ Ok count
       header : block_of (table_in x.table) 0 ≡ block_of (table_in y.table) 0
       each : (k : ℕ) → 1 ≤ k → k ≤ count → Twin mine (block_of (table_in x.table) k) (block_of (table_in y.table) k)
 
@@ -124,7 +124,7 @@ module _ (mine : List ℕ) where
         }
 
     -- one call
-    module _ (x : Lent) (sound : check_area x.table (length x.profile) ≡ Sound count) (c : Turn)
+    module _ (x : Lent) (sound : check_area x.table (length x.profile) ≡ Ok count) (c : Turn)
         (others : subscription_of (dialect_in (turn_over x c)) c.request (table_in x.table) count ≢ some mine) where
       abbrev z : Lent
       z = table_only (turn_over x c)
@@ -135,11 +135,11 @@ module _ (mine : List ℕ) where
       abbrev u : List ℕ
       u = (serve_table z).table
 
-      found : check_of z ≡ Sound count
+      found : check_of z ≡ Ok count
       unfolding check_area
       found = sound
 
-      left : check_table u (length x.profile) ≡ Sound count
+      left : check_table u (length x.profile) ≡ Ok count
       left = sound_kept z count found
 
       was : SoundTable t count
@@ -195,7 +195,7 @@ module _ (mine : List ℕ) where
           }
 
     -- the row
-    row_after : (x : Lent) → check_area x.table (length x.profile) ≡ Sound count → (cs : List Turn) → AboutOthers mine count x cs
+    row_after : (x : Lent) → check_area x.table (length x.profile) ≡ Ok count → (cs : List Turn) → AboutOthers mine count x cs
         → After x (after_turns x cs)
     unfolding after_turns
     row_after x sound [] o =
@@ -214,7 +214,7 @@ module _ (mine : List ℕ) where
         after_again x (after_turn x c) (after_turns (after_turn x c) cs) a (row_after (after_turn x c) a.sound cs o.1)
 
     -- a request about mine sees the same before and after
-    module _ (x : Lent) (cs : List Turn) (asked : AboutMine x count mine) (sound : check_area x.table (length x.profile) ≡ Sound count)
+    module _ (x : Lent) (cs : List Turn) (asked : AboutMine x count mine) (sound : check_area x.table (length x.profile) ≡ Ok count)
         (o : AboutOthers mine count x cs) where
       abbrev y : Lent
       y = after_turns x cs
@@ -228,7 +228,7 @@ module _ (mine : List ℕ) where
       pub row_answered : (a : Answer) → (serve x).call ≡ Answered a → (b : Answer) × ((serve y).call ≡ Answered b)
       row_answered = also_answered x y count sound a.sound a.request a.terms a.buffer a.vectors
 
-      pub row_sound : check_area y.table (length y.profile) ≡ Sound count
+      pub row_sound : check_area y.table (length y.profile) ≡ Ok count
       row_sound = a.sound
 
       user_after : (name : List ℕ) → (name ≡ mine) ⊎ (having private_of name (records_of x count) ≡ [])

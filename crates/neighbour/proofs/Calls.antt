@@ -1,7 +1,7 @@
 -- What a call that is answered says and writes; two such calls over tables of which the request sees the same.
+use Rattle.std.specs.Prelude.{Ok}
 use Rattle.octets.specs.Standard.{ℕ, Bool, false, ◌≡◌, refl, sym, ◌∙◌, ap, ◌≢◌, List, arith, length, drop, take_at}
 use Rattle.octets.specs.Run.{over}
-use Rattle.blocks.specs.declared.Checked.TheVariants.{Sound}
 use Rattle.table.specs.Area.{table_in, check_area}
 use Rattle.table.specs.SoundTable.{SoundTable}
 use Rattle.diameter.specs.Message.{command_of}
@@ -23,7 +23,7 @@ pub record Told (z : Lent) (count : ℕ) (s : Served) (a : Answer) : Type 0 wher
   pub told : a ≡ record { length = length (answer_of z (decision z count)); place = (decision z count).place }
   pub bytes : bytes_of s a ≡ answer_of z (decision z count)
 
-told : (z : Lent) (count : ℕ) → check_of z ≡ Sound count → (a : Answer) → (serve_table z).call ≡ Answered a → Told z count (serve_table z) a
+told : (z : Lent) (count : ℕ) → check_of z ≡ Ok count → (a : Answer) → (serve_table z).call ≡ Answered a → Told z count (serve_table z) a
 unfolding refused answered_by over
 told z count sound a =
     serve_by_lem z (λ (s : Served). s.call ≡ Answered a → Told z count s a) (λ r f g e. let n : ◌≡◌ {A = ℕ} 0 1 = cc in absurd (omega arith))
@@ -32,13 +32,13 @@ told z count sound a =
     let q : record { length = length w; place = (decision z count).place } ≡ a = cc in
     record { told = sym q; bytes = rw (← q) (take_at w (drop (length w) z.buffer) (length w) refl) }))
 
-module _ (x y : Lent) (count many : ℕ) (first : check_area x.table (length x.profile) ≡ Sound count)
-    (second : check_area y.table (length y.profile) ≡ Sound many) (same : SameSeen x y count many) (apart : command_of x.request ≢ 303) where
-  one : check_of (table_only x) ≡ Sound count
+module _ (x y : Lent) (count many : ℕ) (first : check_area x.table (length x.profile) ≡ Ok count)
+    (second : check_area y.table (length y.profile) ≡ Ok many) (same : SameSeen x y count many) (apart : command_of x.request ≢ 303) where
+  one : check_of (table_only x) ≡ Ok count
   unfolding check_area
   one = first
 
-  two : check_of (table_only y) ≡ Sound many
+  two : check_of (table_only y) ≡ Ok many
   unfolding check_area
   two = second
 
@@ -75,14 +75,14 @@ unfolding refused
 turned_none z a =
     serve_either z (λ (b : Bool) (s : Served). s.call ≡ Answered a → b ≡ false) (λ r e. let n : ◌≡◌ {A = ℕ} 0 1 = cc in absurd (omega arith)) (λ e. refl)
 
-module _ (x y : Lent) (count : ℕ) (first : check_area x.table (length x.profile) ≡ Sound count)
-    (second : check_area y.table (length y.profile) ≡ Sound count) (request : x.request ≡ y.request) (terms : x.terms ≡ y.terms)
+module _ (x y : Lent) (count : ℕ) (first : check_area x.table (length x.profile) ≡ Ok count)
+    (second : check_area y.table (length y.profile) ≡ Ok count) (request : x.request ≡ y.request) (terms : x.terms ≡ y.terms)
     (buffer : x.buffer ≡ y.buffer) (vectors : check_vectors x.vectors ≡ check_vectors y.vectors) where
-  here : check_of (table_only x) ≡ Sound count
+  here : check_of (table_only x) ≡ Ok count
   unfolding check_area
   here = first
 
-  there : check_of (table_only y) ≡ Sound count
+  there : check_of (table_only y) ≡ Ok count
   unfolding check_area
   there = second
 
@@ -98,8 +98,8 @@ module _ (x y : Lent) (count : ℕ) (first : check_area x.table (length x.profil
 
 -- a table that is answered for is sound
 pub is_sound_lem : (x : Lent) (a : Answer) → (serve x).call ≡ Answered a
-    → check_area x.table (length x.profile) ≡ Sound (check_value (check_area x.table (length x.profile)))
+    → check_area x.table (length x.profile) ≡ Ok (check_value (check_area x.table (length x.profile)))
 unfolding refused check_area
 is_sound_lem x a =
-    serve_by_lem (table_only x) (λ (s : Served). s.call ≡ Answered a → check_of (table_only x) ≡ Sound (check_value (check_of (table_only x))))
+    serve_by_lem (table_only x) (λ (s : Served). s.call ≡ Answered a → check_of (table_only x) ≡ Ok (check_value (check_of (table_only x))))
     (λ r f g e. let n : ◌≡◌ {A = ℕ} 0 1 = cc in absurd (omega arith)) (λ k e. k.table)

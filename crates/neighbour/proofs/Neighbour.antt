@@ -1,9 +1,9 @@
 -- 02 [9], "The neighbour's line", as theorems about `serve`, for anything lent: another subscriber's doings show in no answer. What the words mean is in
 -- specs/Seen and specs/Mine.
+use Rattle.std.specs.Prelude.{Ok}
 use Rattle.octets.specs.Standard.{ℕ, ◌≡◌, sym, ◌∙◌, ap, ◌≢◌, List, arith, length}
 use Rattle.record.specs.Fields.{private_of}
 use Rattle.blocks.specs.Blocks.{block_of}
-use Rattle.blocks.specs.declared.Checked.TheVariants.{Sound}
 use Rattle.table.specs.Area.{table_in, check_area}
 use Rattle.diameter.specs.Message.{command_of}
 use Rattle.calling.specs.Call.{Answer, Answered}
@@ -24,18 +24,18 @@ use Rattle.neighbour.proofs.Before.{row_answered, row_sound, row_seen}
 -- Two of these conditions could be left out, and are the document's: that the tables are sound follows from both calls being answered (`answered_sound`), and
 -- no answer shows the edition (as `seen_alike/proofs/Moved` says of a move). Within the others some bytes show in no answer: a record's pending bit, and the
 -- profile bytes of a record that is mine and is not asked about. The order is that of the names in every sound table.
-pub neighbours_line : (x y : Lent) (count many : ℕ) → check_area x.table (length x.profile) ≡ Sound count
-    → check_area y.table (length y.profile) ≡ Sound many → SameSeen x y count many → command_of x.request ≢ 303
+pub neighbours_line : (x y : Lent) (count many : ℕ) → check_area x.table (length x.profile) ≡ Ok count
+    → check_area y.table (length y.profile) ≡ Ok many → SameSeen x y count many → command_of x.request ≢ 303
     → (a b : Answer) → (serve x).call ≡ Answered a → (serve y).call ≡ Answered b → SameAnswer (serve x) (serve y) a b
 neighbours_line = same_answer
 
 pub answered_sound : (x : Lent) (a : Answer) → (serve x).call ≡ Answered a
-    → check_area x.table (length x.profile) ≡ Sound (check_value (check_area x.table (length x.profile)))
+    → check_area x.table (length x.profile) ≡ Ok (check_value (check_area x.table (length x.profile)))
 answered_sound = is_sound_lem
 
 -- IN A SUBSCRIBER'S WORDS. The same request about my subscription, on the same terms, over two tables with equal headers ..
-module _ (x y : Lent) (count many : ℕ) (first : check_area x.table (length x.profile) ≡ Sound count)
-    (second : check_area y.table (length y.profile) ≡ Sound many) (request : x.request ≡ y.request) (terms : x.terms ≡ y.terms)
+module _ (x y : Lent) (count many : ℕ) (first : check_area x.table (length x.profile) ≡ Ok count)
+    (second : check_area y.table (length y.profile) ≡ Ok many) (request : x.request ≡ y.request) (terms : x.terms ≡ y.terms)
     (header : SameApart header_apart (block_of (table_in x.table) 0) (block_of (table_in y.table) 0)) (mine : List ℕ) (here : AboutMine x count mine)
     (there : AboutMine y many mine) (apart : command_of x.request ≢ 303) (a b : Answer) (answer : (serve x).call ≡ Answered a)
     (other : (serve y).call ≡ Answered b) where
@@ -54,7 +54,7 @@ module _ (x y : Lent) (count many : ℕ) (first : check_area x.table (length x.p
 
 -- Nor does any row of calls about others, made before mine, show in my answer, with whatever commands and on whatever terms: mine is answered as it was.
 -- (A MAR is left aside here as it is above.)
-pub calls_before : (x : Lent) (count : ℕ) → check_area x.table (length x.profile) ≡ Sound count → (mine : List ℕ) → AboutMine x count mine
+pub calls_before : (x : Lent) (count : ℕ) → check_area x.table (length x.profile) ≡ Ok count → (mine : List ℕ) → AboutMine x count mine
     → (cs : List Turn) → AboutOthers mine count x cs → command_of x.request ≢ 303
     → (a : Answer) → (serve x).call ≡ Answered a
     → ((serve (after_turns x cs)).call ≡ Answered a) × (bytes_of (serve (after_turns x cs)) a ≡ bytes_of (serve x) a)

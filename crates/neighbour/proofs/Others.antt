@@ -1,11 +1,11 @@
 -- A request about my subscription sees my records alone, and lines of others do not matter.
+use Rattle.std.specs.Prelude.{Ok}
 use Rattle.octets.specs.Standard.{ℕ, Bool, true, false, cond, true≢false, ◌≡◌, refl, sym, ◌∙◌, ap, ◌⊎◌, inl, inr, List, [], ◌∷◌}
 use Rattle.octets.specs.Standard.{arith, length}
 use Rattle.octets.specs.Name.{same}
 use Rattle.octets.proofs.Names.{same_yes, same_no}
 use Rattle.record.specs.Fields.{public_of, private_of}
 use Rattle.blocks.specs.Blocks.{block_of}
-use Rattle.blocks.specs.declared.Checked.TheVariants.{Sound}
 use Rattle.table.specs.Area.{table_in, check_area}
 use Rattle.table.specs.SoundTable.{SoundTable}
 use Rattle.diameter.specs.Put.{All}
@@ -17,7 +17,7 @@ use Rattle.neighbour.proofs.Records.{Roomy, records_roomy, having_all}
 use Rattle.neighbour.proofs.Lines.{line_shows, having_lines}
 
 -- the check says that a table is sound
-pub table_sound : (x : Lent) (count : ℕ) → check_area x.table (length x.profile) ≡ Sound count → SoundTable (table_in x.table) count
+pub table_sound : (x : Lent) (count : ℕ) → check_area x.table (length x.profile) ≡ Ok count → SoundTable (table_in x.table) count
 unfolding check_area
 table_sound x count e = record { file = length x.profile; checked = e }
 

@@ -1,4 +1,5 @@
 -- Two calls that have in common what 02 [9] asks see the same of their tables.
+use Rattle.std.specs.Prelude.{Some}
 use Rattle.octets.specs.Standard.{ℕ, true, ◌≡◌, List, [], ◌∷◌, map}
 use Rattle.octets.specs.Name.{same}
 use Rattle.record.specs.Fields.{public_of, private_of}
@@ -7,7 +8,6 @@ use Rattle.table.specs.Area.{table_in}
 use Rattle.table.specs.Named.{public_at, private_at}
 use Rattle.table.specs.SoundTable.{SoundTable}
 use Rattle.lookup.specs.Find.{public_is, find_public, private_is}
-use Rattle.lookup.specs.declared.Found.TheVariants.{At}
 use Rattle.diameter.specs.Avp.{data_of}
 use Rattle.diameter.specs.Message.{body_of}
 use Rattle.diameter.specs.Put.{All}
@@ -46,7 +46,7 @@ module _ (x y : Lent) (count many : ℕ) (first : SoundTable (table_in x.table) 
   Private name = Each Like (numbers_up_to (private_is t name) count) (numbers_up_to (private_is u name) many)
 
   abbrev Public : List ℕ → Type 0
-  Public name = FoundAlike Like (find_public t count name) (find_public u many name) × ((k : ℕ) → find_public t count name ≡ At k → Private (private_at t k))
+  Public name = FoundAlike Like (find_public t count name) (find_public u many name) × ((k : ℕ) → find_public t count name ≡ Some k → Private (private_at t k))
 
   is_private : (name : List ℕ) → SameHaving x y count many private_of name → Private name
   unfolding private_is private_at

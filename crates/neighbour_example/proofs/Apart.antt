@@ -1,9 +1,9 @@
 -- No hypothesis of the neighbour's line is idle but two, that the tables are sound, which follows, and the edition, which no answer shows: for each of the
 -- others a pair of calls that have the rest in common, both answered, and not with the same bytes.
+use Rattle.std.specs.Prelude.{Ok}
 use Rattle.octets.specs.Standard.{ℕ, true, false, ◌≡◌, refl, sym, ◌∙◌, ap, ◌≢◌, List, [], ◌∷◌, ◌++◌, arith, length, get_or, take, set}
 use Rattle.record.specs.Fields.{public_of, private_of}
 use Rattle.blocks.specs.Blocks.{block_of}
-use Rattle.blocks.specs.declared.Checked.TheVariants.{Sound}
 use Rattle.table.specs.Area.{table_in}
 use Rattle.table.specs.Check.{check_table}
 use Rattle.vectors.specs.VectorFile.{check_vectors}
@@ -78,10 +78,10 @@ module _ (req other t file v w o : List ℕ) (terms elsewhere : Terms) (count : 
 abbrev told : ℕ → Answer
 told n = record { length = n; place = 0 }
 
-by : (x : Lent) (count many : ℕ) → check_of x ≡ Sound count → check_vectors x.vectors ≡ Sound many → x.buffer ≡ room
-    → serve x ≡ known false (Sound count) (Sound many) x
+by : (x : Lent) (count many : ℕ) → check_of x ≡ Ok count → check_vectors x.vectors ≡ Ok many → x.buffer ≡ room
+    → serve x ≡ known false (Ok count) (Ok many) x
 by x count many e f o =
-    serve_sound x count e ∙ come x {y = known false (Sound count) (Sound many) x} (rw o roomy) e f refl
+    serve_sound x count e ∙ come x {y = known false (Ok count) (Ok many) x} (rw o roomy) e f refl
 
 -- answers of other lengths, or with another byte
 long : (r q : Served) (m n : ℕ) → m ≢ n → SameAnswer r q (told m) (told n) → ⊥
@@ -190,7 +190,7 @@ renamed = checked (take 508 (set (set (set (set (set (header 1 0) 13 4) 20 0) 21
 abbrev hosted : Lent
 hosted = lent lir renamed [] [] room (under_cx 3588 0)
 
-renamed_sound : check_table renamed 0 ≡ Sound 1
+renamed_sound : check_table renamed 0 ≡ Ok 1
 unfolding all renamed
 renamed_sound = refl
 
@@ -215,7 +215,7 @@ header_apart_lem = long (serve plain) (serve hosted) 132 128 (λ e. omega arith)
 abbrev empty : Lent
 empty = lent lir (header 0 0) [] [] room (under_cx 3588 0)
 
-empty_sound : check_table (header 0 0) 0 ≡ Sound 0
+empty_sound : check_table (header 0 0) 0 ≡ Ok 0
 unfolding all
 empty_sound = refl
 
@@ -258,7 +258,7 @@ without_q = lent unmatched (one 0 1 s) [] [] room (under_cx 3588 0)
 abbrev with_q : Lent
 with_q = lent unmatched pair [] [] room (under_cx 3588 0)
 
-pair_sound : check_table pair 0 ≡ Sound 2
+pair_sound : check_table pair 0 ≡ Ok 2
 unfolding all pair
 pair_sound = refl
 
@@ -332,11 +332,11 @@ unserved_lent = lent lir alone [] [] room (under_cx 3588 0)
 abbrev served_lent : Lent
 served_lent = lent lir served [] [] room (under_cx 3588 0)
 
-alone_sound : check_table alone 0 ≡ Sound 1
+alone_sound : check_table alone 0 ≡ Ok 1
 unfolding all alone
 alone_sound = refl
 
-served_sound : check_table served 0 ≡ Sound 2
+served_sound : check_table served 0 ≡ Ok 2
 unfolding all served
 served_sound = refl
 
@@ -394,7 +394,7 @@ profile_one = lent wanting profiled (1 ∷ []) [] room (under_cx 3588 0)
 abbrev profile_two : Lent
 profile_two = lent wanting profiled (2 ∷ []) [] room (under_cx 3588 0)
 
-profiled_sound : check_table profiled 1 ≡ Sound 1
+profiled_sound : check_table profiled 1 ≡ Ok 1
 unfolding all profiled
 profiled_sound = refl
 
@@ -428,7 +428,7 @@ cardless = lent (authentication 1 s) (one 0 1 s) [] [] room (under_cx 3588 0)
 abbrev carded : Lent
 carded = lent (authentication 1 s) (one 0 1 s) [] (vector 0 0x70 0x20) room (under_cx 3588 0)
 
-card_sound : check_vectors (vector 0 0x70 0x20) ≡ Sound 1
+card_sound : check_vectors (vector 0 0x70 0x20) ≡ Ok 1
 unfolding all
 card_sound = refl
 

@@ -1,8 +1,8 @@
 -- The theorems of the neighbour's line at two tables that differ in everything they may differ in: for each command, a removal of several, lines of others, and
 -- a call before mine. Each time both calls are answered.
+use Rattle.std.specs.Prelude.{Ok}
 use Rattle.octets.specs.Standard.{ℕ, false, ◌≡◌, refl, sym, ◌∙◌, ap, ◌≢◌, inl, Option, some, List, [], ◌∷◌, ◌++◌, arith, length}
 use Rattle.record.specs.Fields.{public_of, private_of}
-use Rattle.blocks.specs.declared.Checked.TheVariants.{Sound}
 use Rattle.table.specs.Area.{table_in}
 use Rattle.diameter.specs.Message.{command_of}
 use Rattle.diameter.specs.Put.{All}
@@ -134,16 +134,16 @@ over_second req = lent req second others (vector 0 0x71 0x20) large (under_cx 35
 abbrev told : ℕ → Answer
 told n = record { length = n; place = 0 }
 
-by_first : (req : List ℕ) (n : ℕ) → (known false (Sound 4) (Sound 0) (here req)).call ≡ Answered (told n) → (serve (here req)).call ≡ Answered (told n)
+by_first : (req : List ℕ) (n : ℕ) → (known false (Ok 4) (Ok 0) (here req)).call ≡ Answered (told n) → (serve (here req)).call ≡ Answered (told n)
 by_first req n e =
     ap (λ (t : List ℕ). (serve_table (holding (here req) t)).call) first_in
-    ∙ ap (λ (y : Served). y.call) (come (here req) {y = known false (Sound 4) (Sound 0) (here req)} roomy first_exact no_vectors refl) ∙ e
+    ∙ ap (λ (y : Served). y.call) (come (here req) {y = known false (Ok 4) (Ok 0) (here req)} roomy first_exact no_vectors refl) ∙ e
 
-by_second : (req : List ℕ) (n : ℕ) → (known false (Sound 6) (Sound 1) (over_second req)).call ≡ Answered (told n) → (serve (there req)).call ≡ Answered (told n)
+by_second : (req : List ℕ) (n : ℕ) → (known false (Ok 6) (Ok 1) (over_second req)).call ≡ Answered (told n) → (serve (there req)).call ≡ Answered (told n)
 by_second req n e =
     ap (λ (t : List ℕ). (serve_table (holding (there req) t)).call) second_in
     ∙ ap (λ (y : Served). y.call)
-    (come (over_second req) {y = known false (Sound 6) (Sound 1) (over_second req)} large_enough second_exact card_sound refl)
+    (come (over_second req) {y = known false (Ok 6) (Ok 1) (over_second req)} large_enough second_exact card_sound refl)
     ∙ e
 
 uar_here : (serve (here uar)).call ≡ Answered (told 152)
@@ -307,8 +307,8 @@ not_mine_asked o name n e f = n (let q : some (name ∷ []) ≡ some (0x70 ∷ [
 about_b : AboutOthers (0x70 ∷ []) 4 (here uar) (turn ∷ [])
 about_b = (not_mine_asked (subscription_of (dialect_in before) registering (table_in first) 4) 0x71 (λ e. omega arith) asks_b, tt)
 
-left_by_lem : serve before ≡ known false (Sound 4) (Sound 0) before
-left_by_lem = serve_sound before 4 first_exact ∙ come before {y = known false (Sound 4) (Sound 0) before} roomy first_exact no_vectors refl
+left_by_lem : serve before ≡ known false (Ok 4) (Ok 0) before
+left_by_lem = serve_sound before 4 first_exact ∙ come before {y = known false (Ok 4) (Ok 0) before} roomy first_exact no_vectors refl
 
 left_table : (serve before).table ≡ altered
 unfolding all registering altered

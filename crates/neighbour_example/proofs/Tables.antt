@@ -1,11 +1,11 @@
 -- Two tables that differ in everything that they may differ in, and the requests that are asked of both.
+use Rattle.std.specs.Prelude.{Ok}
 use Rattle.octets.specs.Standard.{ℕ, Bool, true, false, ◌||◌, ◌≡◌, refl, ap, List, [], ◌∷◌, ◌++◌, length, get_or, take, set, replicate, eqb}
 use Rattle.octets.specs.Standard.{ltb, eqb-true, length-replicate}
 use Rattle.octets.specs.All.{all_below}
 use Rattle.octets.proofs.All.{all_at}
 use Rattle.record.specs.Fields.{public_of, private_of, profile_of}
 use Rattle.blocks.specs.Blocks.{block_of}
-use Rattle.blocks.specs.declared.Checked.TheVariants.{Sound}
 use Rattle.table.specs.Area.{size_in, table_in, check_area}
 use Rattle.table.specs.Check.{check_table}
 use Rattle.vectors.specs.VectorFile.{check_vectors}
@@ -103,23 +103,23 @@ pub second_in : table_in (second ++ behind) ≡ second
 unfolding all
 second_in = refl
 
-pub first_exact : check_table first (length profiles) ≡ Sound 4
+pub first_exact : check_table first (length profiles) ≡ Ok 4
 unfolding all
 first_exact = refl
 
-pub second_exact : check_table second (length others) ≡ Sound 6
+pub second_exact : check_table second (length others) ≡ Ok 6
 unfolding all
 second_exact = refl
 
-pub first_sound_lem : check_area first (length profiles) ≡ Sound 4
+pub first_sound_lem : check_area first (length profiles) ≡ Ok 4
 unfolding check_area
 first_sound_lem = rw first_in first_exact
 
-pub second_sound : check_area (second ++ behind) (length others) ≡ Sound 6
+pub second_sound : check_area (second ++ behind) (length others) ≡ Ok 6
 unfolding check_area
 second_sound = rw second_in second_exact
 
-pub card_sound : check_vectors (vector 0 0x71 0x20) ≡ Sound 1
+pub card_sound : check_vectors (vector 0 0x71 0x20) ≡ Ok 1
 unfolding all
 card_sound = refl
 

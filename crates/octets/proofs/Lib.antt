@@ -8,6 +8,7 @@ pub mod Numbers
 pub mod Orders
 pub mod Padded
 pub mod Parts
+pub mod Ranges
 pub mod Runs
 pub mod Sums
 pub mod Writes

@@ -1,12 +1,14 @@
 -- Laws of the mask: what a field holds past its first bytes, eight bytes at a time.
-use Rattle.octets.specs.Standard.{ℕ, zero, suc, ◌+◌, ◌-◌, ◌*◌, ◌<◌, ◌≤◌, Bool, true, false, ◌&&◌, and-true, and_assoc, ◌≡◌, refl, ◌∙◌, ◌≢◌}
-use Rattle.octets.specs.Standard.{List, arith, bit_and, bit_or, and_block, and_mask, and_zero_r, eqb, ltb, length, get_or, set, length-set}
-use Rattle.octets.specs.Standard.{replicate, length-replicate, get_or-replicate, get_or-set_same, get_or-set_other, eqb-true, eqb-false, ltb-true}
+use Rattle.octets.specs.Standard.{ℕ, zero, suc, ◌+◌, ◌-◌, ◌*◌, ◌<◌, ◌≤◌, Bool, true, false, ◌&&◌, and-true, and_assoc, ◌≡◌, refl, ◌∙◌}
+use Rattle.octets.specs.Standard.{List, arith, bit_and, bit_or, and_block, and_mask, and_zero_r, eqb, ltb, get_or, length}
+use Rattle.octets.specs.Standard.{ltb-true}
 use Rattle.octets.specs.Standard.{ltb-false}
 use Rattle.octets.specs.All.{all_below}
 use Rattle.octets.specs.Number.{eight, le64_at}
-use Rattle.octets.specs.Run.{zeros, zero_between, Mask}
+use Rattle.octets.specs.Standard.{get_or-append, get_or-append-add, get_or-drop, length-replicate, drop, replicate, get_or-replicate, sym, ap, ◌++◌}
+use Rattle.octets.specs.Run.{zeros, zero_between, Mask, Wrote, over}
 use Rattle.octets.proofs.Numbers.{Bytes}
+use Rattle.octets.proofs.Writes.{over_length}
 use Rattle.octets.proofs.Runs.{or_zero, eight_zero, zeros_more}
 
 -- The number that n bytes make, the first the lowest: byte by byte under a mask.
@@ -77,33 +79,24 @@ pub past_all : (s : List ℕ) (at n i k bits : ℕ) → i ≤ k → k ≤ i → 
 unfolding zero_between
 past_all s at n i k bits a b e = let j : i ≡ k = omega arith in rw (← j) e
 
--- The turns of the loop that makes the mask: zeros, and bytes whose bits are all set up to a place.
-pub record Made (m : List ℕ) (i : ℕ) : Type 0 where
-  pub size : length m ≡ 256
-  pub clear : (j : ℕ) → j < 128 → get_or m j 0 ≡ 0
-  pub full : (j : ℕ) → 128 ≤ j → j < i → get_or m j 0 ≡ 255
-
-pub made_none : Made (replicate 256 0) 128
-made_none =
+-- The mask: zeros written over the front of bytes whose bits are all set.
+pub mask_made : {m : List ℕ} {r : ℕ} → Wrote (replicate 128 0) (replicate 256 255) m r → Mask m
+unfolding over
+mask_made {m} p =
+    let z : length (replicate {A = ℕ} 128 0) ≡ 128 = length-replicate {A = ℕ} 128 0 in
+    let o : length (replicate {A = ℕ} 256 255) ≡ 256 = length-replicate {A = ℕ} 256 255 in
+    let rest : List ℕ = drop (length (replicate {A = ℕ} 128 0)) (replicate {A = ℕ} 256 255) in
     record {
-      size = length-replicate {A = ℕ} 256 0;
-      clear = λ j h. get_or-replicate {A = ℕ} 256 j 0 0 (omega arith);
-      full = λ j a b. absurd (omega arith);
+      size = ap length p.bytes ∙ over_length (replicate 128 0) (replicate 256 255) (omega (arith, z, o)) ∙ o;
+      clear = λ i h.
+          let k : i < length (replicate {A = ℕ} 128 0) = omega (arith, z, h) in
+          ap (λ (x : List ℕ). get_or x i 0) p.bytes ∙ get_or-append (replicate 128 0) rest 0 i k ∙ get_or-replicate {A = ℕ} 128 i 0 0 h;
+      full = λ i g h.
+          let j : ℕ = length (replicate {A = ℕ} 128 0) + (i - 128) in
+          let k : j ≡ i = omega (arith, z, g) in
+          let d : j < 256 = omega (arith, k, h) in
+          ap (λ (x : List ℕ). get_or x i 0) p.bytes
+          ∙ ap (λ (n : ℕ). get_or (replicate 128 0 ++ rest) n 0) (sym k)
+          ∙ get_or-append-add (replicate 128 0) rest (i - 128) 0
+          ∙ rw get_or-drop (get_or-replicate {A = ℕ} 256 j 255 0 d);
     }
-
-pub made_more : (m : List ℕ) (i : ℕ) → 128 ≤ i → i < 256 → Made m i → Made (set m i 255) (i + 1)
-made_more m i a b p =
-    record {
-      size = rw (length-set m i 255) p.size;
-      clear = λ j h. get_or-set_other m i j 255 0 (λ e. absurd (omega arith)) ∙ p.clear j h;
-      full = λ j g h. later j g h (eqb j i) refl;
-    }
-  where
-    later : (j : ℕ) → 128 ≤ j → j < i + 1 → (x : Bool) → eqb j i ≡ x → get_or (set m i 255) j 0 ≡ 255
-    later j g h true e = rw (eqb-true j i e, get_or-set_same m i 255 0 (omega (arith, p.size)))
-    later j g h false e =
-        let q : j ≢ i = eqb-false j i e in
-        get_or-set_other m i j 255 0 q ∙ p.full j g (omega arith)
-
-pub made_all : (m : List ℕ) (i : ℕ) → 256 ≤ i → Made m i → Mask m
-made_all m i h p = record { size = p.size; clear = p.clear; full = λ j a b. p.full j a (omega arith) }

@@ -5,8 +5,8 @@ use Rattle.octets.specs.Standard.{le-ltb, ltb-true, ltb-false, eqb-true, eqb-fal
 use Rattle.octets.specs.All.{all_below}
 use Rattle.octets.specs.Name.{order_of, alike_at, alike_from, same}
 use Rattle.octets.specs.Number.{le32_at}
-use Rattle.octets.specs.declared.name.Order.TheVariants.{Less, Equal, Greater}
-use Rattle.octets.proofs.All.{and_left, and_right, all_at, all_true, all_join, all_stretch}
+use Rattle.std.specs.declared.cmp.Ordering.TheVariants.{Less, Equal, Greater}
+use Rattle.octets.proofs.All.{and_left, and_right, all_at, all_true, all_join}
 use Rattle.octets.proofs.Numbers.{Bytes}
 use Rattle.octets.proofs.Runs.{or_zero}
 
@@ -30,12 +30,7 @@ same_no s t h = go (same s t) refl
     go true e = absurd (h (same_eq s t e))
     go false e = e
 
--- The turns of the loop that passes over what is alike.
-module _ (s t : List ℕ) (i : ℕ) where
-  pub same_more : (k : ℕ) {x : Bool} → true ≡ all_below (alike_at s t) i → x ≡ all_below (alike_from s t i) k → x ≡ true → true ≡ all_below (alike_at s t) (i + k)
-  unfolding alike_from
-  same_more k e f g = sym g ∙ f ∙ all_stretch (alike_at s t) (alike_from s t i) i (λ j. refl) k e
-
+-- By the lengths, and where those are the same by the bytes.
 pub same_lengths : (s t : List ℕ) → (length s ≡ length t → ⊥) → false ≡ same s t
 unfolding same
 same_lengths s t h = rw (ne_eqb _ _ h)

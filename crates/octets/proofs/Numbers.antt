@@ -1,12 +1,12 @@
 -- Laws of numbers in bytes: in a part of a list, past a store, and read back.
 use Rattle.octets.specs.Standard.{ℕ, zero, suc, ◌+◌, ◌*◌, ◌/◌, ◌%◌, ◌^◌, ◌<◌, ◌≤◌, Bool, true, ◌&&◌, ◌≡◌, refl, sym, ap, ◌∙◌, List, [], ◌∷◌}
-use Rattle.octets.specs.Standard.{arith, mod-eq_of_lt, add_assoc, add-zero, zero-add, ltb, shr-shr, length, get_or, set, take, drop}
-use Rattle.octets.specs.Standard.{get_or-set_other, get_or-drop, get_or-take, set-get_or, ltb-true}
+use Rattle.octets.specs.Standard.{◌-◌, arith, mod-eq_of_lt, add_assoc, add-zero, zero-add, ltb, shr-shr, length, get_or, set, take, drop}
+use Rattle.octets.specs.Standard.{get_or-set_other, get_or-drop, get_or-take, set-get_or, ltb-true, put_mid}
 use Rattle.std.proofs.Common.{w8, Fits}
 use Rattle.octets.specs.Number.{four, be16_at, be24_at, be32_at, be64_at, put_be24, put_be32}
 use Rattle.octets.specs.Run.{put_name}
 use Rattle.octets.proofs.All.{and_left, and_right}
-use Rattle.octets.proofs.Runs.{name_here}
+use Rattle.octets.proofs.Runs.{name_here, mid_name}
 
 -- What a list of bytes has at every place.
 abbrev pub Bytes : List ℕ → Type 0
@@ -93,6 +93,13 @@ put24_name s at w = rw add-zero
 pub put32_name : (s : List ℕ) (at w : ℕ) → put_be32 s at w ≡ put_name s at (bytes32 w) 4
 unfolding put_be32 put_name
 put32_name s at w = rw add-zero
+
+-- A part of a list with a number's bytes in its place.
+pub put24_mid : (s : List ℕ) (at w : ℕ) {v : List ℕ} → at + 3 ≤ length s → v ≡ bytes24 w → put_mid at (at + 3 - at) s v ≡ put_be24 s at w
+put24_mid s at w h e = rw e (mid_name s at (bytes24 w) (bytes24 w) 3 h refl (λ i l. refl) (at + 3 - at) (omega arith) ∙ sym (put24_name s at w))
+
+pub put32_mid : (s : List ℕ) (at w : ℕ) {v : List ℕ} → at + 4 ≤ length s → v ≡ bytes32 w → put_mid at (at + 4 - at) s v ≡ put_be32 s at w
+put32_mid s at w h e = rw e (mid_name s at (bytes32 w) (bytes32 w) 4 h refl (λ i l. refl) (at + 4 - at) (omega arith) ∙ sym (put32_name s at w))
 
 put_at : (s : List ℕ) (at : ℕ) (name : List ℕ) (n : ℕ) → at + n ≤ length s → (j : ℕ) → j < n → get_or (put_name s at name n) (at + j) 0 ≡ get_or name (0 + j) 0
 put_at s at name n h j l = name_here s at name n j h l ∙ ap (λ (k : ℕ). get_or name k 0) (sym (zero-add j))

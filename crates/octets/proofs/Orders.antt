@@ -1,11 +1,11 @@
 -- The order of two names that are alike before a place, by what stands there: the turns of the loop that compares.
-use Rattle.octets.specs.Standard.{ℕ, zero, suc, ◌+◌, ◌-◌, ◌%◌, ◌<◌, ◌≤◌, min, Bool, true, false, cond, ◌≡◌, refl, sym, ◌∙◌, List, arith}
+use Rattle.octets.specs.Standard.{ℕ, zero, suc, ◌+◌, ◌-◌, ◌<◌, ◌≤◌, min, Bool, true, false, cond, ◌≡◌, refl, sym, ◌∙◌, List, arith}
 use Rattle.octets.specs.Standard.{add-one, ltb, length, get_or, drop, drop_of_length-le, drop-cons, lt-ltb, le-ltb, ltb-true, ltb-false, eqb-true}
 use Rattle.octets.specs.Standard.{eq-eqb}
 use Rattle.octets.specs.All.{all_below}
 use Rattle.octets.specs.Name.{order_of, alike_at, by_number, by_length}
-use Rattle.octets.specs.declared.name.Order.{Order}
-use Rattle.octets.specs.declared.name.Order.TheVariants.{Less, Equal, Greater}
+use Rattle.std.specs.declared.cmp.Ordering.{Ordering}
+use Rattle.std.specs.declared.cmp.Ordering.TheVariants.{Less, Equal, Greater}
 use Rattle.octets.specs.Number.{be64_at}
 use Rattle.octets.proofs.All.{and_left, and_right, all_at, all_true}
 use Rattle.octets.proofs.Numbers.{Bytes, be_at, be64_is}
@@ -47,14 +47,14 @@ module _ (s t : List ℕ) (i n : ℕ) (alike : order_of s t ≡ order_of (drop i
     pub order_equal : a ≡ b → order_of s t ≡ order_of (drop (i + 1) s) (drop (i + 1) t)
     order_equal e = alike ∙ order_pass s t i (omega arith) (omega arith) (sym x ∙ e ∙ y)
 
-    pub order_differ : {r : Order} → (a ≡ b → ⊥) → r ≡ by_number a b → r ≡ order_of s t
+    pub order_differ : {r : Ordering} → (a ≡ b → ⊥) → r ≡ by_number a b → r ≡ order_of s t
     order_differ {r} d e = go (ltb a b) refl
       where
         go : (z : Bool) → ltb a b ≡ z → r ≡ order_of s t
         go true f = let l : a < b = ltb-true _ _ f in e ∙ rw f (order_less s t i alike (omega arith) (omega arith) (omega arith))
         go false f = let l : b ≤ a = ltb-false _ _ f in e ∙ rw f (order_greater s t i alike (omega arith) (omega arith) (omega arith))
 
-  pub order_lengths : {r : Order} → i ≤ n → n ≤ i → r ≡ by_length (length s) (length t) → r ≡ order_of s t
+  pub order_lengths : {r : Ordering} → i ≤ n → n ≤ i → r ≡ by_length (length s) (length t) → r ≡ order_of s t
   order_lengths {r} a b e = go (ltb (length s) (length t)) refl
     where
       more : (x : Bool) → length t ≤ length s → ltb (length t) (length s) ≡ x → cond x Greater Equal ≡ order_of s t
@@ -109,7 +109,7 @@ module _ (s t : List ℕ) (i : ℕ) (bs : Bytes s) (bt : Bytes t) (alike : true 
           let m : get_or t (i + k) 0 < get_or s (i + k) 0 = omega (arith, bs (i + k), bt (i + k)) in
           order_greater s t (i + k) (order_alike s t (i + k) (omega arith) (omega arith) (number_alike k e)) (omega arith) (omega arith) m
 
-  number_differ : (k a b : ℕ) {r : Order} → i + k ≤ length s → i + k ≤ length t → a ≡ be_at k s i → b ≡ be_at k t i → (a ≡ b → ⊥) → r ≡ by_number a b
+  number_differ : (k a b : ℕ) {r : Ordering} → i + k ≤ length s → i + k ≤ length t → a ≡ be_at k s i → b ≡ be_at k t i → (a ≡ b → ⊥) → r ≡ by_number a b
       → r ≡ order_of s t
   number_differ k a b {r} h l x y d e = go (ltb a b) refl
     where
@@ -121,17 +121,9 @@ module _ (s t : List ℕ) (i : ℕ) (bs : Bytes s) (bt : Bytes t) (alike : true 
   pub eight_alike : (a b : ℕ) → a ≡ be64_at s i → b ≡ be64_at t i → a ≡ b → true ≡ all_below (alike_at s t) (i + 8)
   eight_alike a b x y e = number_alike 8 (sym (be64_is s i) ∙ sym x ∙ e ∙ y ∙ be64_is t i)
 
-  pub eight_differ : (n a b : ℕ) {r : Order} → n ≡ min (length s) (length t) → i ≤ n → 8 ≤ n - i → a ≡ be64_at s i → b ≡ be64_at t i → (a ≡ b → ⊥)
+  pub eight_differ : (n a b : ℕ) {r : Ordering} → n ≡ min (length s) (length t) → i ≤ n → 8 ≤ n - i → a ≡ be64_at s i → b ≡ be64_at t i → (a ≡ b → ⊥)
       → r ≡ by_number a b → r ≡ order_of s t
   eight_differ n a b m h l x y d e = number_differ 8 a b (omega arith) (omega arith) (x ∙ be64_is s i) (y ∙ be64_is t i) d e
-
-  -- The same of fields of one length: a later eight, and one of the first two.
-  module _ (a b : ℕ) {r : Order} (one : length s ≡ length t) (x : a ≡ be64_at s i) (y : b ≡ be64_at t i) (d : a ≡ b → ⊥) (e : r ≡ by_number a b) where
-    pub field_differ : length s % 8 ≡ 0 → i % 8 ≡ 0 → i < length s → r ≡ order_of s t
-    field_differ h k l = eight_differ (length s) a b (omega arith) (omega arith) (omega arith) x y d e
-
-    pub front_differ : 16 ≤ length s → i < 16 → i % 8 ≡ 0 → r ≡ order_of s t
-    front_differ h k l = eight_differ (length s) a b (omega arith) (omega arith) (omega arith) x y d e
 
 -- Two fields of one length that are alike all through.
 pub field_same : (s t : List ℕ) (i : ℕ) → length s ≡ length t → i ≤ length s → length s ≤ i → true ≡ all_below (alike_at s t) i → Equal ≡ order_of s t
@@ -141,7 +133,7 @@ field_same s t i l a b e = order_end s t i (order_alike s t i a (omega arith) e)
 pub alike_last : (s t : List ℕ) (i n : ℕ) → true ≡ all_below (alike_at s t) i → n - i < 8 → true ≡ all_below (alike_at s t) (n - 8)
 alike_last s t i n e h = sym (all_true (alike_at s t) (n - 8) (λ k l. all_at (alike_at s t) i (sym e) k (omega arith)))
 
-module _ (s t : List ℕ) (n a b : ℕ) {r : Order} (bs : Bytes s) (bt : Bytes t) (least : n ≡ min (length s) (length t)) (some : 8 ≤ n)
+module _ (s t : List ℕ) (n a b : ℕ) {r : Ordering} (bs : Bytes s) (bt : Bytes t) (least : n ≡ min (length s) (length t)) (some : 8 ≤ n)
     (alike : true ≡ all_below (alike_at s t) (n - 8)) (x : a ≡ be64_at s (n - 8)) (y : b ≡ be64_at t (n - 8)) where
   pub last_alike : a ≡ b → r ≡ by_length (length s) (length t) → r ≡ order_of s t
   last_alike e f =

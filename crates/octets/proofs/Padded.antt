@@ -3,10 +3,10 @@ use Rattle.octets.specs.Standard.{ℕ, zero, suc, ◌≤◌, Bool, true, false, 
 use Rattle.octets.specs.Standard.{le-ltb, ltb-true, ltb-false}
 use Rattle.octets.proofs.Names.{never}
 use Rattle.octets.specs.Name.{order_of, by_length}
-use Rattle.octets.specs.declared.name.Order.{Order}
-use Rattle.octets.specs.declared.name.Order.TheVariants.{Less, Equal, Greater}
+use Rattle.std.specs.declared.cmp.Ordering.{Ordering}
+use Rattle.std.specs.declared.cmp.Ordering.TheVariants.{Less, Equal, Greater}
 
-abbrev pub by_field : Order → Order → Order
+abbrev pub by_field : Ordering → Ordering → Ordering
 by_field Less o = Less
 by_field Equal o = o
 by_field Greater o = Greater
@@ -45,7 +45,7 @@ padded_order (x ∷ s) (y ∷ t) zero (suc n) l a b z w =
     (go (ltb 0 y) refl (order_of s t)
     (padded_order s t 0 n (omega arith) (omega arith) (omega arith) (λ i h. z (suc i) (omega arith)) (λ i h. w (suc i) (omega arith))))
   where
-    go : (c : Bool) → ltb 0 y ≡ c → (o : Order) → order_of [] (take n t) ≡ by_field o (by_length 0 n)
+    go : (c : Bool) → ltb 0 y ≡ c → (o : Ordering) → order_of [] (take n t) ≡ by_field o (by_length 0 n)
         → Less ≡ by_field (cond (ltb 0 y) Less (cond (ltb y 0) Greater o)) (by_length 0 (suc n))
     go true e o f = rw e
     go false e Less f = rw (e, le-ltb y 0 (omega arith))
@@ -56,7 +56,7 @@ padded_order (x ∷ s) (y ∷ t) (suc m) zero l a b z w =
     (go (ltb 0 x) refl (order_of s t)
     (padded_order s t m 0 (omega arith) (omega arith) (omega arith) (λ i h. z (suc i) (omega arith)) (λ i h. w (suc i) (omega arith))))
   where
-    go : (c : Bool) → ltb 0 x ≡ c → (o : Order) → order_of (take m s) [] ≡ by_field o (by_length m 0)
+    go : (c : Bool) → ltb 0 x ≡ c → (o : Ordering) → order_of (take m s) [] ≡ by_field o (by_length m 0)
         → Greater ≡ by_field (cond (ltb x 0) Less (cond (ltb 0 x) Greater o)) (by_length (suc m) 0)
     go true e o f = rw (e, le-ltb x 0 (omega arith))
     go false e Less f = empty_last (take m s) f

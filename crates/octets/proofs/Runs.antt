@@ -2,17 +2,15 @@
 use Rattle.octets.specs.Standard.{ℕ, zero, suc, ◌+◌, ◌-◌, ◌*◌, ◌<◌, ◌≤◌, max, Bool, true, false, ◌&&◌, ◌≡◌, refl, sym, ◌∙◌, ap, ◌≢◌, List, []}
 use Rattle.octets.specs.Standard.{arith, add-one, bit_or, or_add_and, and_le_l, and_le_r, or_zero_l, eqb, length, get_or, set, length-set}
 use Rattle.octets.specs.Standard.{get_or-eq_default, get_or-set_same, get_or-set_other, eq-eqb, ne_eqb, eqb-true, eqb-false}
+use Rattle.octets.specs.Standard.{◌++◌, ◌∷◌, append_assoc, length-append, length-take-le, take, drop, take-append-drop, take-suc, take_all, drop-cons, drop-drop}
+use Rattle.octets.specs.Standard.{set_at, put_mid, mid_len, mid_of, replicate, length-replicate, get_or-replicate, get_or-take, get_or-drop, length-drop, min}
 use Rattle.octets.specs.All.{all_below}
 use Rattle.octets.specs.Number.{two, eight, be16_at, le64_at}
 use Rattle.octets.specs.Run.{zeros, zero_between, put_name}
 use Rattle.octets.proofs.All.{all_at, all_true, all_alike, all_join}
 use Rattle.octets.proofs.Chains.{◌also◌}
 
--- The turns of the loop that looks for zeros.
-pub zeros_none : (s : List ℕ) (from : ℕ) → true ≡ zeros s from (from - from)
-unfolding zeros all_below
-zeros_none s from = let n : from - from ≡ 0 = omega arith in rw n
-
+-- The turns of a loop that looks for zeros.
 pub zeros_more : (s : List ℕ) (from i : ℕ) {good : Bool} → from ≤ i → good ≡ zeros s from (i - from)
     → (good && eqb (get_or s i 0) 0) ≡ zeros s from (i + 1 - from)
 unfolding zeros all_below
@@ -24,6 +22,30 @@ zeros_more s from i h e =
 pub zeros_all : (s : List ℕ) (from to i : ℕ) {good : Bool} → from ≤ i → i ≤ max from to → to ≤ i → good ≡ zeros s from (i - from) → good ≡ zero_between s from to
 unfolding zero_between
 zeros_all s from to i a b h e = let n : i - from ≡ to - from = omega arith in rw (← n) e
+
+-- The same over the part of a list.
+abbrev pub part : List ℕ → ℕ → ℕ → List ℕ
+part s from to = take (to - min from to) (drop (min from to) s)
+
+pub run_none : (s : List ℕ) (from : ℕ) → true ≡ zeros s from 0
+unfolding zeros all_below
+run_none s from = refl
+
+module _ (s run : List ℕ) (from to : ℕ) (is : run ≡ part s from to) (within : to ≤ length s) where
+  pub run_more : (i : ℕ) {good : Bool} → i < length run → good ≡ zeros s from i → (good && eqb (get_or run i 0) 0) ≡ zeros s from (i + 1)
+  unfolding zeros all_below
+  run_more i h e =
+      let l : length (part s from to) ≡ to - min from to = length-take-le (to - min from to) (drop (min from to) s) (rw length-drop (omega arith)) in
+      let k : i < to - min from to = omega (arith, ap length is, l) in
+      let m : min from to ≡ from = omega arith in
+      rw (add-one, is, get_or-take (to - min from to) (drop (min from to) s) i 0 k, get_or-drop, m, e)
+
+  pub run_all : (i : ℕ) {good : Bool} → i ≤ length run → length run ≤ i → good ≡ zeros s from i → good ≡ zero_between s from to
+  unfolding zero_between
+  run_all i a b e =
+      let l : length (part s from to) ≡ to - min from to = length-take-le (to - min from to) (drop (min from to) s) (rw length-drop (omega arith)) in
+      let k : i ≡ to - from = omega (arith, ap length is, l) in
+      rw (← k) e
 
 -- Two numbers have no bit set exactly if neither has.
 pub or_zero : (a b : ℕ) → eqb (bit_or a b) 0 ≡ (eqb a 0 && eqb b 0)
@@ -111,18 +133,29 @@ module _ (s : List ℕ) (at : ℕ) where
   unfolding zero_between
   set_all i n bits a b e = let k : at + 8 * n - at ≡ 8 * i = omega arith in rw k e
 
--- The turns of the loop that puts a name.
 pub name_none : (s : List ℕ) (at : ℕ) (name : List ℕ) → s ≡ put_name s at name 0
 unfolding put_name
 name_none s at name = refl
 
-pub name_more : (s : List ℕ) (at : ℕ) (name : List ℕ) (i : ℕ) {x : List ℕ} {b : ℕ} → x ≡ put_name s at name i → b ≡ get_or name i 0
-    → set x (at + i) b ≡ put_name s at name (i + 1)
-unfolding put_name
-name_more s at name i e f = rw (add-one, e, f)
+-- A part of a list with a name's bytes in its place.
+module _ (s : List ℕ) (at : ℕ) (name w : List ℕ) (n : ℕ) (room : at + n ≤ length s) (size : length w ≡ n)
+    (bytes : (i : ℕ) → i < n → get_or w i 0 ≡ get_or name i 0) where
+  mid_first : (k : ℕ) → k ≤ n → take at s ++ (take k w ++ drop (at + k) s) ≡ put_name s at name k
+  unfolding put_name
+  mid_first zero h = let e : at + 0 ≡ at = omega arith in rw e (take-append-drop at s)
+  mid_first (suc k) h =
+      let e : at + suc k ≡ suc (at + k) = omega arith in
+      let l : length (take at s ++ take k w) ≡ at + k =
+      length-append (take at s) (take k w) ∙ rw (length-take-le at s (omega arith), length-take-le k w (omega arith)) in
+      let i = mid_first k (omega arith) in
+      rw (e, take-suc w k 0 (omega arith), bytes k h, ← i, drop-cons s (at + k) 0 (omega arith), append_assoc (take k w) (get_or name k 0 ∷ []) (drop (suc (at + k)) s))
+      (sym (append_assoc (take at s) (take k w) (get_or name k 0 ∷ drop (suc (at + k)) s))
+      ∙ sym (set_at (take at s ++ take k w) (get_or s (at + k) 0) (drop (suc (at + k)) s) (get_or name k 0) (at + k) l)
+      ∙ ap (λ (x : List ℕ). set x (at + k) (get_or name k 0)) (append_assoc (take at s) (take k w) (get_or s (at + k) 0 ∷ drop (suc (at + k)) s)))
 
-pub name_all : (s : List ℕ) (at : ℕ) (name : List ℕ) (i n : ℕ) {x : List ℕ} → i ≤ n → n ≤ i → x ≡ put_name s at name i → x ≡ put_name s at name n
-name_all s at name i n a b e = let k : i ≡ n = omega arith in cc
+  pub mid_name : (k : ℕ) → k ≡ n → put_mid at k s w ≡ put_name s at name n
+  mid_name k e =
+      rw (e, drop-drop n at s) (ap (λ (x : List ℕ). take at s ++ (x ++ drop (at + n) s)) (sym (take_all n w (omega arith))) ∙ mid_first n (omega arith))
 
 pub past_zero : (s : List ℕ) (i : ℕ) → length s ≤ i → 0 ≡ get_or s i 0
 past_zero s i h = sym (get_or-eq_default s 0 h)
@@ -136,11 +169,24 @@ name_then s at name m (suc k) h =
     let p : at + m + k ≡ at + (m + k) = omega arith in
     rw (n, p, name_then s at name m k h, ← past_zero name (m + k) (omega arith))
 
-pub name_whole : (s : List ℕ) (at : ℕ) (name : List ℕ) (n : ℕ) {x y : List ℕ} → length name ≤ n → x ≡ put_name s at name (length name)
-    → y ≡ put_name x (at + length name) [] (n - length name) → y ≡ put_name s at name n
-name_whole s at name n h e f =
+pub name_length : (s : List ℕ) (at : ℕ) (name : List ℕ) (n : ℕ) → length (put_name s at name n) ≡ length s
+unfolding put_name
+name_length s at name zero = refl
+name_length s at name (suc n) = simp length-set (name_length s at name n)
+
+pub name_whole : (s : List ℕ) (at : ℕ) (name : List ℕ) (n : ℕ) {v z : List ℕ} (m : ℕ) → at + n ≤ length s → length name ≤ n → v ≡ name → z ≡ replicate m 0
+    → m ≡ length (mid_of (at + length name) (at + n - (at + length name)) (put_mid at (at + length name - at) s v))
+    → put_mid (at + length name) (at + n - (at + length name)) (put_mid at (at + length name - at) s v) z ≡ put_name s at name n
+name_whole s at name n {v} m room h e f q =
     let k : length name + (n - length name) ≡ n = omega arith in
-    f ∙ rw e (name_then s at name (length name) (n - length name) (omega arith) ∙ ap (put_name s at name) k)
+    let p = mid_name s at name name (length name) (omega arith) refl (λ i l. refl) (at + length name - at) (omega arith) in
+    let g : m ≡ n - length name =
+    q
+    ∙ ap (λ (x : List ℕ). length (mid_of (at + length name) (at + n - (at + length name)) (put_mid at (at + length name - at) s x))) e
+    ∙ rw p (mid_len (at + length name) (at + n) (put_name s at name (length name)) (rw name_length room) ∙ omega arith) in
+    let z = mid_name (put_name s at name (length name)) (at + length name) [] (replicate m 0) (n - length name) (rw name_length (omega arith))
+    (length-replicate {A = ℕ} m 0 ∙ g) (λ i l. get_or-replicate {A = ℕ} m i 0 0 (omega arith)) (at + n - (at + length name)) (omega arith) in
+    rw (e, f, p, z) (name_then s at name (length name) (n - length name) (omega arith) ∙ ap (put_name s at name) k)
 
 -- A byte of a zero run is zero, and the other way round.
 module _ (s : List ℕ) (from to : ℕ) where
@@ -160,11 +206,6 @@ zero_alike x y from to h = all_alike _ _ (to - from) (λ i l. rw (h (from + i) (
 
 -- A name that is put into its field.
 module _ (s : List ℕ) (at : ℕ) (name : List ℕ) where
-  pub name_length : (n : ℕ) → length (put_name s at name n) ≡ length s
-  unfolding put_name
-  name_length zero = refl
-  name_length (suc n) = simp length-set (name_length n)
-
   pub name_apart : (n i : ℕ) → ((j : ℕ) → j < n → i ≢ at + j) → get_or (put_name s at name n) i 0 ≡ get_or s i 0
   unfolding put_name
   name_apart zero i h = refl

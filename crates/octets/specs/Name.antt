@@ -1,20 +1,20 @@
 -- "A name is bytes, compared exactly." "Public identities rise strictly, bytewise, a prefix first."
 use Rattle.std.specs.Prelude.{ℕ, ◌+◌, Bool, cond, ◌&&◌, List, [], ◌∷◌, length, ◌==◌, nat_lt, slice_index}
 use Rattle.octets.specs.All.{all_below}
-use Rattle.octets.specs.declared.name.Order.{Order}
-use Rattle.octets.specs.declared.name.Order.TheVariants.{Less, Equal, Greater}
+use Rattle.std.specs.declared.cmp.Ordering.{Ordering}
+use Rattle.std.specs.declared.cmp.Ordering.TheVariants.{Less, Equal, Greater}
 
-unfoldable pub order_of : List ℕ → List ℕ → Order
+unfoldable pub order_of : List ℕ → List ℕ → Ordering
 order_of [] [] = Equal
 order_of [] (y ∷ t) = Less
 order_of (x ∷ s) [] = Greater
 order_of (x ∷ s) (y ∷ t) = cond (nat_lt x y) Less (cond (nat_lt y x) Greater (order_of s t))
 
 -- two bytes, or two numbers of several, that differ; two names of which one begins the other, by their lengths
-abbrev pub by_number : ℕ → ℕ → Order
+abbrev pub by_number : ℕ → ℕ → Ordering
 by_number a b = cond (nat_lt a b) Less Greater
 
-abbrev pub by_length : ℕ → ℕ → Order
+abbrev pub by_length : ℕ → ℕ → Ordering
 by_length m n = cond (nat_lt m n) Less (cond (nat_lt n m) Greater Equal)
 
 -- two names have the same byte i; the same bytes

@@ -11,7 +11,7 @@ ghost use Rattle.std.specs.Prelude.{◌≡◌, ◌<◌, length, slice_index};
 pub fn wide(x: u8) -> usize
     ensures { (result ≡ x) × (result < 256) }
 {
-    x as usize
+    usize::from(x)
 }
 
 // The byte at a place, as a wider number.
@@ -26,5 +26,5 @@ pub fn byte(s: &[u8], i: usize) -> usize
 pub fn byte_or_zero(s: &[u8], i: usize) -> u8
     ensures { result ≡ slice_index s.now i }
 {
-    if i < s.len() { s[i] } else { 0 }
+    s.get(i).copied().unwrap_or(0)
 }

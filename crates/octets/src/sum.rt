@@ -19,7 +19,8 @@ fn odd_bytes(w: u32) -> u32
     w / 256 % 256 + w / 16777216 * 65536
 }
 
-// The sums of the first n words. Every machine has vectors that do this, and not all have ones that turn words round.
+// The sums of the first n words, by place: "wrapping add over the block's 128 words". Every machine has vectors that do this, and not all have ones that
+// turn words round.
 fn columns(s: &[u8], n: usize) -> Sums
     requires { (4 * n ≤ length s.now) × (n ≤ 128) }
     ensures { result ≡ columns_of s.now n }
@@ -28,27 +29,29 @@ fn columns(s: &[u8], n: usize) -> Sums
     let mut odd: u32 = 0;
     for i in 0..n {
         let w = number::le32(s, 4 * i);
-        whole = std::num::wrapping_add_u32(whole, w);
+        whole = whole.wrapping_add(w);
         odd += odd_bytes(w);
     }
     Sums { whole, odd }
 }
 
-// The sums of the first and of the third bytes: those of all bytes, less the odd ones with what they carry.
-fn even_sums(whole: u32, odd: u32) -> u32
-    ensures { result ≡ even_of whole odd }
-{
-    std::num::wrapping_sub_u32(whole, odd % 16777216 * 256)
-}
+impl Sums {
+    // The sums of the first and of the third bytes: those of all bytes, less the odd ones with what they carry.
+    fn even(self) -> u32
+        ensures { result ≡ even_of self.whole self.odd }
+    {
+        self.whole.wrapping_sub(self.odd % 16777216 * 256)
+    }
 
-// The sum of words whose first byte is the highest.
-fn turned(even: u32, odd: u32) -> u32
-    ensures { result ≡ turned even odd }
-{
-    std::num::wrapping_add_u32(
-        std::num::wrapping_add_u32(even % 256 * 16777216, odd % 65536 * 65536),
-        even / 65536 * 256 + odd / 65536,
-    )
+    // The sum of words whose first byte is the highest.
+    fn turned(self) -> u32
+        ensures { result ≡ turned (even_of self.whole self.odd) self.odd }
+    {
+        let even = self.even();
+        (even % 256 * 16777216)
+            .wrapping_add(self.odd % 65536 * 65536)
+            .wrapping_add(even / 65536 * 256 + self.odd / 65536)
+    }
 }
 
 // The sum of the first n words: their bytes are put in their order when all are added.
@@ -56,6 +59,5 @@ pub fn sum_words(s: &[u8], n: usize) -> u32
     requires { (4 * n ≤ length s.now) × (n ≤ 128) }
     ensures { result ≡ sum_words s.now n }
 {
-    let c = columns(s, n);
-    turned(even_sums(c.whole, c.odd), c.odd)
+    columns(s, n).turned()
 }

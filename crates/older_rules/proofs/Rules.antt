@@ -1,7 +1,6 @@
 -- Rules that check a table alike, decide alike over a sound one, and say so alike, are one call.
+use Rattle.std.specs.Prelude.{Result, Ok, Err}
 use Rattle.octets.specs.Standard.{ℕ, ◌≡◌, refl, length}
-use Rattle.blocks.specs.declared.Checked.{Checked}
-use Rattle.blocks.specs.declared.Checked.TheVariants.{Sound, Bad}
 use Rattle.reading.specs.Rules.{Seen}
 use Rattle.requests.specs.Judged.{Judged, bad, fine}
 use Rattle.choices.specs.declared.Given.{Given}
@@ -18,14 +17,14 @@ module _ (r s : Rules) (x : Lent) where
   AnswersAlike = (g : Given) → r.answer x.terms x.request x.table x.profile x.vectors g
       ≡ s.answer x.terms x.request x.table x.profile x.vectors g
 
-  found_same : (c : Checked) → AnswersAlike → ((count : ℕ) → c ≡ Sound count → decision_by r x count ≡ decision_by s x count)
+  found_same : (c : Result ℕ ℕ) → AnswersAlike → ((count : ℕ) → c ≡ Ok count → decision_by r x count ≡ decision_by s x count)
       → serve_found r x c ≡ serve_found s x c
   unfolding serve_found tried answered_by
-  found_same (Sound count) a h = rw (h count refl, a (decision_by s x count).given)
-  found_same (Bad block) a h = refl
+  found_same (Ok count) a h = rw (h count refl, a (decision_by s x count).given)
+  found_same (Err block) a h = refl
 
   pub rules_same : r.check x.table (length x.profile) ≡ s.check x.table (length x.profile) → AnswersAlike
-      → ((count : ℕ) → s.check x.table (length x.profile) ≡ Sound count → decision_by r x count ≡ decision_by s x count)
+      → ((count : ℕ) → s.check x.table (length x.profile) ≡ Ok count → decision_by r x count ≡ decision_by s x count)
       → serve_table_by r x ≡ serve_table_by s x
   unfolding serve_table_by
   rules_same e a h = rw e (found_same (s.check x.table (length x.profile)) a h)

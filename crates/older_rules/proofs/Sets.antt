@@ -1,4 +1,5 @@
 -- Sets (02 [6]), as theorems about `serve_table`, the check and the decisions. What the rules were before them is in specs/WithoutSets.
+use Rattle.std.specs.Prelude.{Ok, Option, Some, None}
 use Rattle.octets.specs.Standard.{ℕ, ◌*◌, ◌<◌, ◌≤◌, Bool, true, false, not, ◌&&◌, ◌||◌, true≢false, ◌≡◌, refl, sym, ◌∙◌, List, arith, eqb, leb}
 use Rattle.octets.specs.Standard.{length, drop_of_length-le, eqb-true, leb-true, leb-false}
 use Rattle.octets.specs.Number.{be16_at}
@@ -9,11 +10,8 @@ use Rattle.record.specs.Sets.{same_set, agreeing}
 use Rattle.blocks.specs.Blocks.{block_of}
 use Rattle.table.specs.Check.{check_table}
 use Rattle.table.specs.SoundTable.{SoundTable}
-use Rattle.blocks.specs.declared.Checked.TheVariants.{Sound}
 use Rattle.table.proofs.Sound.{TableTests, table_says, sound_agrees, tests_record}
 use Rattle.lookup.specs.Find.{is_at, free_here, free_at, find_free, barred_alone}
-use Rattle.lookup.specs.declared.Found.{Found}
-use Rattle.lookup.specs.declared.Found.TheVariants.{At, Nothing}
 use Rattle.lookup.proofs.First.{first_none, first_fails}
 use Rattle.rewrite.proofs.Reaching.{header_set}
 use Rattle.moving.proofs.Moved.{each_edition}
@@ -38,7 +36,7 @@ without_sets x none =
     (carried_is x.table none count x.request))
 
 -- A sound table of the first edition is one, so that it is untouched.
-module _ (t : List ℕ) (file count : ℕ) (checked : check_table t file ≡ Sound count) where
+module _ (t : List ℕ) (file count : ℕ) (checked : check_table t file ≡ Ok count) where
   was : TableTests t file count
   was = table_says t file count checked
 
@@ -66,7 +64,7 @@ module _ (t : List ℕ) (file count : ℕ) (checked : check_table t file ≡ Sou
       go true false f g = let q : k ≡ 0 = omega (arith, leb-false 1 k g) in rw q (header_set t count sound)
 
 -- AGREEMENT. Whatever a call comes to, the records of every set agree after it in state, pending and server name, if the table was sound.
-pub members_agree : (x : Lent) (count : ℕ) → check_of x ≡ Sound count → (j k : ℕ) → 1 ≤ j → j < k → k ≤ count
+pub members_agree : (x : Lent) (count : ℕ) → check_of x ≡ Ok count → (j k : ℕ) → 1 ≤ j → j < k → k ≤ count
     → same_set (block_of (serve_table x).table j) (block_of (serve_table x).table k) ≡ true
     → agreeing (block_of (serve_table x).table j) (block_of (serve_table x).table k) ≡ true
 members_agree x count e j k a b c =
@@ -91,9 +89,9 @@ module _ (t : List ℕ) (count k : ℕ) where
         others = λ j a b s. not_free (same_set (block_of t k) (block_of t j)) (barred (bits_of (block_of t j))) (fails j a b) s;
       }
     where
-      none : (f : Found) → not (is_at f) ≡ true → f ≡ Nothing
-      none (At j) g = absurd (true≢false (sym g))
-      none Nothing g = refl
+      none : (f : Option ℕ) → not (is_at f) ≡ true → f ≡ None
+      none (Some j) g = absurd (true≢false (sym g))
+      none None g = refl
 
       fails : (j : ℕ) → 1 ≤ j → j ≤ count → (same_set (block_of t k) (block_of t j) && not (barred (bits_of (block_of t j)))) ≡ false
       fails j a b =

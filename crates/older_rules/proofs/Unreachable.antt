@@ -1,5 +1,6 @@
 -- 02 [7], "A branch nobody can reach.": the B5012 of UAR and LIR, as it stood in the two decisions, is never given over a sound table. The decisions with it
 -- are in specs/WithBranch.
+use Rattle.std.specs.Prelude.{Option, Some, None, Ok}
 use Rattle.octets.specs.Standard.{ℕ, Bool, true, false, cond, not, ◌&&◌, ◌≡◌, refl, List, eqb, ltb, length, ltb-true, lt-ltb}
 use Rattle.record.specs.Fields.{state_of, server_size}
 use Rattle.blocks.specs.Blocks.{block_of}
@@ -7,8 +8,6 @@ use Rattle.table.specs.Check.{check_table}
 use Rattle.table.specs.SoundTable.{SoundTable}
 use Rattle.table.proofs.Sound.{sound_served}
 use Rattle.lookup.specs.Find.{find_public}
-use Rattle.lookup.specs.declared.Found.{Found}
-use Rattle.lookup.specs.declared.Found.TheVariants.{At, Nothing}
 use Rattle.reading.specs.Kinds.{user_name, public_identity, visited_network, authorization_type}
 use Rattle.reading.specs.Rules.{Seen}
 use Rattle.reading.specs.declared.Outcome.TheVariants.{Base, Experimental}
@@ -24,7 +23,6 @@ use Rattle.questions.specs.Location.{sought_at, sought_of, locate_found, locate}
 use Rattle.lookup.proofs.Among.{public_among}
 use Rattle.deciding.specs.Plans.{uar_plan, lir_plan, plan_read}
 use Rattle.deciding.specs.Rules.{in_force}
-use Rattle.blocks.specs.declared.Checked.TheVariants.{Sound}
 use Rattle.calling.specs.Lent.{Lent, dialect_in}
 use Rattle.calling.specs.Serve.{decision_by, decision, serve_table_by, serve_table}
 use Rattle.older_rules.specs.WithBranch.{server_if, old_authorization, old_location, stored_in, old_authorize, old_locate, old_plan, with_branch}
@@ -73,26 +71,26 @@ location_same stored a h = go a.present h
 
 module _ (t : List ℕ) (count : ℕ) (sound : SoundTable t count) where
   -- "how a registered line can lack a server name. It can't."
-  served : (k : ℕ) → Among count (At k) → ltb 0 (state_of (block_of t k)) ≡ true → ltb 0 (server_size (block_of t k)) ≡ true
+  served : (k : ℕ) → Among count (Some k) → ltb 0 (state_of (block_of t k)) ≡ true → ltb 0 (server_size (block_of t k)) ≡ true
   served k among e = lt-ltb _ _ (sound_served t count sound k (among.from k refl) (among.to k refl) (ltb-true _ _ e))
 
-  asked_served : (user network : List ℕ) (f : Found) → Among count f → (asked_of t count user network f).present ≡ true → stored_in t f ≡ true
+  asked_served : (user network : List ℕ) (f : Option ℕ) → Among count f → (asked_of t count user network f).present ≡ true → stored_in t f ≡ true
   unfolding asked_of asked_at
-  asked_served user network (At k) among e = served k among e
-  asked_served user network Nothing among e = e
+  asked_served user network (Some k) among e = served k among e
+  asked_served user network None among e = e
 
-  sought_served : (f : Found) → Among count f → (sought_of t f).present ≡ true → stored_in t f ≡ true
+  sought_served : (f : Option ℕ) → Among count f → (sought_of t f).present ≡ true → stored_in t f ≡ true
   unfolding sought_of sought_at
-  sought_served (At k) among e = served k among e
-  sought_served Nothing among e = e
+  sought_served (Some k) among e = served k among e
+  sought_served None among e = e
 
-  authorize_same : (user network : List ℕ) (kind : ℕ) (f : Found) → Among count f
+  authorize_same : (user network : List ℕ) (kind : ℕ) (f : Option ℕ) → Among count f
       → old_authorize t count user network kind f ≡ authorize_found t count user network kind f
   unfolding old_authorize authorize_found
   authorize_same user network kind f among =
       rw (authorization_same (stored_in t f) (asked_of t count user network f) kind (asked_served user network f among))
 
-  locate_same : (f : Found) → Among count f → old_locate t count f ≡ locate_found t count f
+  locate_same : (f : Option ℕ) → Among count f → old_locate t count f ≡ locate_found t count f
   unfolding old_locate locate_found
   locate_same f among = rw (location_same (stored_in t f) (sought_of t f) (sought_served f among))
 
@@ -105,7 +103,7 @@ module _ (t : List ℕ) (count : ℕ) (sound : SoundTable t count) where
         locate_same (find_public t count (data_seen seen public_identity)) (public_among t count (data_seen seen public_identity) refl),
       )
 
-pub decided_alike : (x : Lent) (count : ℕ) → check_table x.table (length x.profile) ≡ Sound count
+pub decided_alike : (x : Lent) (count : ℕ) → check_table x.table (length x.profile) ≡ Ok count
     → decision_by with_branch x count ≡ decision x count
 decided_alike x count e =
     decided_same with_branch in_force x count refl refl (plan_same x.table count (record { file = length x.profile; checked = e }) (dialect_in x)

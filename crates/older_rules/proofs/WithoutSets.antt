@@ -1,4 +1,5 @@
 -- Without sets each rule is what it was: the check, the barring rule, the effects.
+use Rattle.std.specs.Prelude.{Option, Some, None}
 use Rattle.octets.specs.Standard.{ℕ, suc, zero, ◌+◌, ◌<◌, ◌≤◌, Bool, true, false, true≢false, and-true, ◌≡◌, refl, sym, ◌∙◌, List, [], ◌∷◌, arith}
 use Rattle.record.specs.Fields.{set_of, bits_of, barred}
 use Rattle.record.specs.HeaderBlock.{header_of}
@@ -8,8 +9,6 @@ use Rattle.blocks.specs.Blocks.{block_of, first_bad}
 use Rattle.table.specs.Check.{stands_at, agrees_at, sound_at, check_records, check_table}
 use Rattle.table.proofs.Agreement.{agrees_holds}
 use Rattle.lookup.specs.Find.{barred_alone, find_public}
-use Rattle.lookup.specs.declared.Found.{Found}
-use Rattle.lookup.specs.declared.Found.TheVariants.{At, Nothing}
 use Rattle.lookup.proofs.Scans.{free_none}
 use Rattle.blocks.specs.Changed.{is_one}
 use Rattle.rewrite.specs.Change.{after_of, reaches}
@@ -58,10 +57,10 @@ module _ (t : List ℕ) (none : NoSets t) where
     unfolding barred_alone
     alone_is k = rw (← free_none t count (block_of t k) refl (none k)) (sym (and-true (barred (bits_of (block_of t k)))))
 
-    asked_is : (user network : List ℕ) (f : Found) → asked_before t count user network f ≡ asked_of t count user network f
+    asked_is : (user network : List ℕ) (f : Option ℕ) → asked_before t count user network f ≡ asked_of t count user network f
     unfolding asked_before asked_of
-    asked_is user network (At k) = rw (alone_is k)
-    asked_is user network Nothing = refl
+    asked_is user network (Some k) = rw (alone_is k)
+    asked_is user network None = refl
 
     authorize_is : (user public network : List ℕ) (kind : ℕ) → authorize_before t count user public network kind ≡ authorize t count user public network kind
     unfolding authorize_before authorize authorize_found

@@ -1,13 +1,11 @@
 -- 02 [7], "A branch nobody can reach.": the decisions of UAR and LIR with their B5012 in them, as they stood before. They stand here to say what has not
 -- changed, and nothing but the theorems beside them uses them.
-use Rattle.std.specs.Prelude.{ℕ, List, Bool, false, cond, not, ◌&&◌, eqb, ltb}
+use Rattle.std.specs.Prelude.{ℕ, List, Bool, false, cond, not, ◌&&◌, eqb, ltb, Option, Some, None}
 use Rattle.record.specs.Fields.{server_size}
 use Rattle.blocks.specs.Blocks.{block_of}
 use Rattle.table.specs.Named.{private_at}
 use Rattle.table.specs.Check.{check_table}
 use Rattle.lookup.specs.Find.{find_public, block_found}
-use Rattle.lookup.specs.declared.Found.{Found}
-use Rattle.lookup.specs.declared.Found.TheVariants.{At, Nothing}
 use Rattle.reading.specs.Kinds.{user_name, public_identity, visited_network, authorization_type}
 use Rattle.reading.specs.Rules.{Seen}
 use Rattle.reading.specs.declared.Outcome.{Outcome}
@@ -53,15 +51,15 @@ old_location stored a =
     (First (Base 2001) (Experimental 2003))))
 
 -- whether the record that was found stores a server name
-abbrev pub stored_in : List ℕ → Found → Bool
-stored_in t (At k) = ltb 0 (server_size (block_of t k))
-stored_in t Nothing = false
+abbrev pub stored_in : List ℕ → Option ℕ → Bool
+stored_in t (Some k) = ltb 0 (server_size (block_of t k))
+stored_in t None = false
 
-unfoldable pub old_authorize : List ℕ → ℕ → List ℕ → List ℕ → ℕ → Found → Given
+unfoldable pub old_authorize : List ℕ → ℕ → List ℕ → List ℕ → ℕ → Option ℕ → Given
 old_authorize t count user network kind f =
     carried t count user (block_found f) (old_authorization (stored_in t f) (asked_of t count user network f) kind)
 
-unfoldable pub old_locate : List ℕ → ℕ → Found → Given
+unfoldable pub old_locate : List ℕ → ℕ → Option ℕ → Given
 old_locate t count f = carried t count (private_at t (block_found f)) (block_found f) (old_location (stored_in t f) (sought_of t f))
 
 unfoldable pub old_plan : Dialect → List ℕ → List ℕ → ℕ → List ℕ → Seen → Plan

@@ -1,16 +1,12 @@
 -- The rules as they were before sets: the check asked no agreement, an effect reached the records meant alone, and every barred identity was rejected.
 -- They stand here to say what has not changed, and nothing but the theorems beside them uses them.
-use Rattle.std.specs.Prelude.{ℕ, ◌+◌, ◌*◌, ◌≡◌, List, [], ◌∷◌, false, ◌&&◌, cond, length, eqb, leb}
+use Rattle.std.specs.Prelude.{ℕ, ◌+◌, ◌*◌, ◌≡◌, List, [], ◌∷◌, false, ◌&&◌, cond, length, eqb, leb, Result, Err, Option, Some, None}
 use Rattle.record.specs.Fields.{set_of, bits_of, barred}
 use Rattle.record.specs.HeaderBlock.{header_of, sound_header}
 use Rattle.blocks.specs.Blocks.{block_of}
 use Rattle.blocks.specs.Blocks.{first_bad}
 use Rattle.table.specs.Check.{stands_at}
-use Rattle.blocks.specs.declared.Checked.{Checked}
-use Rattle.blocks.specs.declared.Checked.TheVariants.{Bad}
 use Rattle.lookup.specs.Find.{is_at, find_public, find_private}
-use Rattle.lookup.specs.declared.Found.{Found}
-use Rattle.lookup.specs.declared.Found.TheVariants.{At, Nothing}
 use Rattle.blocks.specs.Changed.{is_one}
 use Rattle.rewrite.specs.Change.{after_of}
 use Rattle.rewrite.specs.Renew.{settled, challenged}
@@ -39,17 +35,17 @@ abbrev pub NoSets : List ℕ → Type 0
 NoSets t = (k : ℕ) → set_of (block_of t k) ≡ 0
 
 -- the check
-unfoldable pub check_before : List ℕ → ℕ → Checked
+unfoldable pub check_before : List ℕ → ℕ → Result ℕ ℕ
 check_before t file =
     cond (leb 512 (length t) && sound_header (block_of t 0) && eqb (length t) (512 * ((header_of (block_of t 0)).count + 1)))
     (first_bad (stands_at t (header_of (block_of t 0)) file) (header_of (block_of t 0)).count (header_of (block_of t 0)).count 1)
-    (Bad 0)
+    (Err 0)
 
 -- "Document 01 rejects every barred identity in a UAR."
-unfoldable pub asked_before : List ℕ → ℕ → List ℕ → List ℕ → Found → Asked
-asked_before t count user network (At k) =
+unfoldable pub asked_before : List ℕ → ℕ → List ℕ → List ℕ → Option ℕ → Asked
+asked_before t count user network (Some k) =
     asked_at (block_of t 0) (block_of t k) (is_at (find_private t count user)) (barred (bits_of (block_of t k))) user network
-asked_before t count user network Nothing =
+asked_before t count user network None =
     record { known = false; together = false; barred = false; roams = false; present = false }
 
 unfoldable pub authorize_before : List ℕ → ℕ → List ℕ → List ℕ → List ℕ → ℕ → Given

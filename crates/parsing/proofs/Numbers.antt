@@ -8,7 +8,9 @@ use Rattle.decimals.specs.declared.Number.{Number}
 use Rattle.decimals.proofs.Sizes.{decimal_length}
 use Rattle.rows.specs.Row.{numbers_line}
 use Rattle.rows.specs.RowIn.{and_then, number_after, ends_line, numbers_in, limits}
-use Rattle.parsing.specs.Parsed.{as_number_after, end_of, Held}
+use Rattle.std.specs.Prelude.{None, Some}
+use Rattle.parsing.specs.Parsed.{given, number_behind, as_numbers}
+use Rattle.parsing.proofs.Fields.{Given, given_some, given_none}
 
 -- numbers before others that go on
 abbrev and_numbers : List ℕ → Option (List ℕ) → Option (List ℕ)
@@ -40,49 +42,36 @@ module _ (s : List ℕ) (at : ℕ) where
   lines_snoc (n ∷ ns) v =
       omega (arith, length-append (decimal n) (numbers_line ns), length-append (decimal n) (numbers_line (ns ++ (v ∷ []))), lines_snoc ns v)
 
-  module _ (out : List ℕ) (i p : ℕ) (n : Number) (r : Reading s at out i p) (h : i < 18) (e : n ≡ as_number_after (number_after (get_or limits i 0) (drop p s))) where
+  module _ (out : List ℕ) (i p : ℕ) (r : Reading s at out i p) (h : i < 18) where
     next : numbers_in (drop i limits) (drop p s)
         ≡ and_then (number_after (get_or limits i 0) (drop p s))
         (λ (v : ℕ). and_then (numbers_in (drop (i + 1) limits) (drop (1 + digit_count v) (drop p s))) (λ (vs : List ℕ). some (v ∷ vs)))
     unfolding numbers_in
     next = rw (add-one i, drop-cons limits i 0 h)
 
-    not_read : n.size ≡ 0 → (0 ≡ end_of at (numbers_in limits (drop at s))) × Held (numbers_in limits (drop at s)) out
-    not_read z = pick (number_after (get_or limits i 0) (drop p s)) refl e
+    pub not_read : None ≡ given number_behind (number_after (get_or limits i 0) (drop p s)) → None ≡ given (as_numbers at) (numbers_in limits (drop at s))
+    not_read e =
+        let f : number_after (get_or limits i 0) (drop p s) ≡ none = given_none number_behind _ e in
+        let q : numbers_in (drop i limits) (drop p s) ≡ none = next ∙ rw f in
+        let z : numbers_in limits (drop at s) ≡ none = r.left ∙ ap (and_numbers (take i out)) q in
+        rw z
+
+    pub reading_more : {n : Number} → Some n ≡ given number_behind (number_after (get_or limits i 0) (drop p s)) → length out ≡ 18
+        → Reading s at (set out i n.value) (i + 1) (p + n.size)
+    reading_more {n} e l = let g : Given number_behind (number_after (get_or limits i 0) (drop p s)) n = given_some number_behind _ e in go g.value n g.is g.made
       where
-        none_is : numbers_in limits (drop at s) ≡ none → (0 ≡ end_of at (numbers_in limits (drop at s))) × Held (numbers_in limits (drop at s)) out
-        none_is f = rw f (refl, record { numbers = λ ns g. let y : ◌≡◌ {A = ℕ} 0 1 = cc in absurd (omega arith) })
-
-        pick : (o : Option ℕ) → number_after (get_or limits i 0) (drop p s) ≡ o → n ≡ as_number_after o
-            → (0 ≡ end_of at (numbers_in limits (drop at s))) × Held (numbers_in limits (drop at s)) out
-        pick none f g =
-            let q : numbers_in (drop i limits) (drop p s) ≡ none = next ∙ rw f in
-            none_is (r.left ∙ ap (and_numbers (take i out)) q)
-        pick (some v) f g = let y : n.size ≡ 1 + digit_count v = rw g in absurd (omega arith)
-
-    pub not_end : n.size ≡ 0 → 0 ≡ end_of at (numbers_in limits (drop at s))
-    not_end z = (not_read z).0
-
-    pub not_held : n.size ≡ 0 → Held (numbers_in limits (drop at s)) out
-    not_held z = (not_read z).1
-
-    pub reading_more : (n.size ≡ 0 → ⊥) → length out ≡ 18 → Reading s at (set out i n.value) (i + 1) (p + n.size)
-    reading_more z l = pick (number_after (get_or limits i 0) (drop p s)) refl e
-      where
-        took : (v : ℕ) → take (i + 1) (set out i v) ≡ take i out ++ (v ∷ [])
-        took v = rw (add-one i) (take-suc-set out i v (omega arith))
-
-        pick : (o : Option ℕ) → number_after (get_or limits i 0) (drop p s) ≡ o → n ≡ as_number_after o → Reading s at (set out i n.value) (i + 1) (p + n.size)
-        pick none f g = absurd (z (rw g))
-        pick (some v) f g =
+        go : (v : ℕ) (n : Number) → number_after (get_or limits i 0) (drop p s) ≡ some v → n ≡ number_behind v
+            → Reading s at (set out i n.value) (i + 1) (p + n.size)
+        go v n f made =
+            let took : take (i + 1) (set out i v) ≡ take i out ++ (v ∷ []) = rw (add-one i) (take-suc-set out i v (omega arith)) in
             let after : Option (List ℕ) = numbers_in (drop (i + 1) limits) (drop (1 + digit_count v) (drop p s)) in
             let q : numbers_in (drop i limits) (drop p s) ≡ and_then after (λ (vs : List ℕ). some (v ∷ vs)) = next ∙ rw f in
             let l : numbers_in limits (drop at s) ≡ and_numbers (take i out ++ (v ∷ [])) after =
             r.left ∙ ap (and_numbers (take i out)) q ∙ and_more (take i out) v after in
-            rw g
+            rw made
             (record {
-              place = rw (took v, lines_snoc (take i out) v) (omega (arith, r.place));
-              left = l ∙ rw (drop-drop (1 + digit_count v) p s, took v);
+              place = rw (took, lines_snoc (take i out) v) (omega (arith, r.place));
+              left = l ∙ rw (drop-drop (1 + digit_count v) p s, took);
             })
 
   module _ (out : List ℕ) (i p : ℕ) (r : Reading s at out i p) (a : i ≤ 18) (b : 18 ≤ i) (l : length out ≡ 18) {x : Bool} (e : x ≡ ends_line (drop p s)) where
@@ -92,28 +81,17 @@ module _ (s : List ℕ) (at : ℕ) where
     whole : take i out ≡ out
     whole = take_all i out (omega arith)
 
-    ended : x ≡ true → (p + 2 ≡ end_of at (numbers_in limits (drop at s))) × Held (numbers_in limits (drop at s)) out
+    pub ended : x ≡ true → Some (record { numbers = out; end = p + 2 }) ≡ given (as_numbers at) (numbers_in limits (drop at s))
     unfolding numbers_in
     ended t =
         let k : ends_line (drop p s) ≡ true = sym e ∙ t in
         let o : numbers_in limits (drop at s) ≡ some out = r.left ∙ rw (whole, eighteen, k, append-nil out) in
-        rw o (r.place ∙ rw whole, record { numbers = λ ns g. cc })
+        let z : p + 2 ≡ at + length (numbers_line out) = r.place ∙ rw whole in
+        rw (o, z)
 
-    unended : x ≡ false → (0 ≡ end_of at (numbers_in limits (drop at s))) × Held (numbers_in limits (drop at s)) out
+    pub unended : x ≡ false → None ≡ given (as_numbers at) (numbers_in limits (drop at s))
     unfolding numbers_in
     unended t =
         let k : ends_line (drop p s) ≡ false = sym e ∙ t in
         let o : numbers_in limits (drop at s) ≡ none = r.left ∙ rw (whole, eighteen, k) in
-        rw o (refl, record { numbers = λ ns g. let y : ◌≡◌ {A = ℕ} 0 1 = cc in absurd (omega arith) })
-
-    pub end_place : x ≡ true → p + 2 ≡ end_of at (numbers_in limits (drop at s))
-    end_place t = (ended t).0
-
-    pub end_held : x ≡ true → Held (numbers_in limits (drop at s)) out
-    end_held t = (ended t).1
-
-    pub open_place : x ≡ false → 0 ≡ end_of at (numbers_in limits (drop at s))
-    open_place t = (unended t).0
-
-    pub open_held : x ≡ false → Held (numbers_in limits (drop at s)) out
-    open_held t = (unended t).1
+        rw o

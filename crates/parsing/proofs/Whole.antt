@@ -6,13 +6,16 @@ use Rattle.quoting.proofs.Names.{quoted_length}
 use Rattle.quoting.proofs.Reading.{taken_written}
 use Rattle.quoting.proofs.Reading as name
 use Rattle.rows.specs.Row.{Row, numbers_line, line_of}
-use Rattle.rows.specs.RowIn.{and_then, name_after, numbers_in, limits, second_at, third_at, numbers_at, row_in, row_size}
+use Rattle.rows.specs.RowIn.{and_then, name_after, numbers_in, limits, second_at, third_at, numbers_at, row_in}
 use Rattle.quoting.specs.Quoted.{name_in}
 use Rattle.rows.specs.Block.{block_from}
 use Rattle.rows.proofs.Lines as line
 use Rattle.rows.proofs.Blocks.{fits_at_lem, fits_length}
-use Rattle.parsing.specs.Parsed.{names_in, as_names, end_of, Held, Sized, row_taken, block_over}
+use Rattle.std.specs.Prelude.{None, Some}
+use Rattle.parsing.specs.Parsed.{given, names_in, as_names, as_numbers, Sized, row_taken, row_length, block_over}
 use Rattle.parsing.specs.declared.Names.{Names}
+use Rattle.parsing.specs.declared.Values.{Values}
+use Rattle.parsing.proofs.Fields.{Given, given_some, given_none}
 
 -- a row with its numbers
 abbrev with_numbers : Row → List ℕ → Row
@@ -106,7 +109,7 @@ names_say s r e = first (name_in 128 s) refl e
     first none f g = let z : ◌≡◌ {A = ℕ} 0 1 = cc in absurd (omega arith)
     first (some a) f g = second a f (name_after 128 (drop (second_at a) s)) refl g
 
-row_taken_lem : (s : List ℕ) (r : Row) (ns : List ℕ) → names_in s ≡ some r → row_taken s (as_names (some r)) ns ≡ with_numbers r ns
+row_taken_lem : (s : List ℕ) (r : Row) (ns : List ℕ) → names_in s ≡ some r → row_taken s (as_names r) ns ≡ with_numbers r ns
 row_taken_lem s r ns e =
     let n : NamesRead s r = names_say s r e in
     let p : taken (length r.public) (drop 1 s) ≡ r.public = quoted_taken s r.public _ (name.written_read 128 s r.public n.public).front in
@@ -130,74 +133,67 @@ fits_sized ns e = record {
   optional = fits_at_lem limits ns e 10;
 }
 
-pub numbers_sized : (s after : List ℕ) (at end : ℕ) → end ≡ end_of at (numbers_in limits (drop at s)) → (end ≡ 0 → ⊥) → Held (numbers_in limits (drop at s)) after
-    → Sized after
+pub numbers_sized : (s : List ℕ) (at : ℕ) {m : Values} → Some m ≡ given (as_numbers at) (numbers_in limits (drop at s)) → Sized m.numbers
 unfolding line.small
-numbers_sized s after at end e z h = go (numbers_in limits (drop at s)) refl e
+numbers_sized s at {m} e = let g : Given (as_numbers at) (numbers_in limits (drop at s)) m = given_some (as_numbers at) _ e in go m g.value g.is g.made
   where
-    go : (o : Option (List ℕ)) → numbers_in limits (drop at s) ≡ o → end ≡ end_of at o → Sized after
-    go none f g = absurd (z g)
-    go (some ns) f g = rw (h.numbers ns f) (fits_sized ns (line.numbers_read limits (drop at s) ns refl f).within)
+    go : (m : Values) (ns : List ℕ) → numbers_in limits (drop at s) ≡ some ns → m ≡ as_numbers at ns → Sized m.numbers
+    go m ns f made = rw made (fits_sized ns (line.numbers_read limits (drop at s) ns refl f).within)
 
 -- The answer: no names, no numbers, or a block.
-module _ (s b : List ℕ) (issue k : ℕ) (n : Names) (e : n ≡ as_names (names_in s)) where
-  nameless : n.numbers ≡ 0 → (0 ≡ row_size (row_in s)) × (b ≡ block_over issue k (row_in s) b)
-  nameless z = go (names_in s) refl e
-    where
-      go : (o : Option Row) → names_in s ≡ o → n ≡ as_names o → (0 ≡ row_size (row_in s)) × (b ≡ block_over issue k (row_in s) b)
-      go none f g = let r : row_in s ≡ none = row_parts s ∙ rw f in rw r (refl, refl)
-      go (some r) f g = let y : n.numbers ≡ numbers_at r.public r.private r.server = rw g in absurd (omega arith)
+module _ (s b : List ℕ) (issue k : ℕ) where
+  none_size : row_in s ≡ none → None ≡ given row_length (row_in s)
+  none_size e = rw e
 
-  pub nameless_size : n.numbers ≡ 0 → 0 ≡ row_size (row_in s)
-  nameless_size z = (nameless z).0
+  none_block : row_in s ≡ none → b ≡ block_over issue k (row_in s) b
+  none_block e = rw e
 
-  pub nameless_block : n.numbers ≡ 0 → b ≡ block_over issue k (row_in s) b
-  nameless_block z = (nameless z).1
+  module _ (e : None ≡ given as_names (names_in s)) where
+    nameless : row_in s ≡ none
+    nameless = row_parts s ∙ rw (given_none as_names (names_in s) e)
 
-  module _ (end : ℕ) (f : end ≡ end_of n.numbers (numbers_in limits (drop n.numbers s))) (there : n.numbers ≡ 0 → ⊥) where
-    numberless : end ≡ 0 → (0 ≡ row_size (row_in s)) × (b ≡ block_over issue k (row_in s) b)
-    numberless z = go (names_in s) refl e
-      where
-        pick : (r : Row) → names_in s ≡ some r → n ≡ as_names (some r) → (o : Option (List ℕ)) → numbers_in limits (drop n.numbers s) ≡ o
-            → end ≡ end_of n.numbers o
-            → (0 ≡ row_size (row_in s)) × (b ≡ block_over issue k (row_in s) b)
-        pick r g h none p q =
-            let w : row_in s ≡ none = row_parts s ∙ rw g (rw h at (ap (λ (o : Option (List ℕ)). and_then o (λ (ns : List ℕ). some (with_numbers r ns))) p)) in
-            rw w (refl, refl)
-        pick r g h (some ns) p q = absurd (there (omega arith))
+    pub nameless_size : None ≡ given row_length (row_in s)
+    nameless_size = none_size nameless
 
-        go : (o : Option Row) → names_in s ≡ o → n ≡ as_names o → (0 ≡ row_size (row_in s)) × (b ≡ block_over issue k (row_in s) b)
-        go none g h = absurd (there (rw h))
-        go (some r) g h = pick r g h (numbers_in limits (drop n.numbers s)) refl f
+    pub nameless_block : b ≡ block_over issue k (row_in s) b
+    nameless_block = none_block nameless
 
-    pub numberless_size : end ≡ 0 → 0 ≡ row_size (row_in s)
-    numberless_size z = (numberless z).0
+  with : (n : Names) (r : Row) → names_in s ≡ some r → n ≡ as_names r → (o : Option (List ℕ)) → numbers_in limits (drop n.numbers s) ≡ o
+      → row_in s ≡ and_then o (λ (ns : List ℕ). some (with_numbers r ns))
+  with n r f made o p =
+      row_parts s ∙ rw f (rw made at (ap (λ (o : Option (List ℕ)). and_then o (λ (ns : List ℕ). some (with_numbers r ns))) p))
 
-    pub numberless_block : end ≡ 0 → b ≡ block_over issue k (row_in s) b
-    numberless_block z = (numberless z).1
+  module _ (n : Names) (e : Some n ≡ given as_names (names_in s)) where
+    names : Given as_names (names_in s) n
+    names = given_some as_names (names_in s) e
 
-    module _ (ns y : List ℕ) (held : Held (numbers_in limits (drop n.numbers s)) ns) (wrote : y ≡ block_from issue k (row_taken s n ns))
-        (some_end : end ≡ 0 → ⊥) where
-      row_whole : row_in s ≡ some (row_taken s n ns) × (end ≡ length (line_of (row_taken s n ns)))
-      row_whole = go (names_in s) refl e
-        where
-          pick : (r : Row) → names_in s ≡ some r → n ≡ as_names (some r) → (o : Option (List ℕ)) → numbers_in limits (drop n.numbers s) ≡ o
-              → end ≡ end_of n.numbers o
-              → row_in s ≡ some (row_taken s n ns) × (end ≡ length (line_of (row_taken s n ns)))
-          pick r g h none p q = absurd (some_end q)
-          pick r g h (some vs) p q =
-              let v : ns ≡ vs = held.numbers vs p in
-              let t : row_taken s n ns ≡ with_numbers r vs = rw (h, v) (row_taken_lem s r vs g) in
-              let w : row_in s ≡ some (with_numbers r vs) =
-              row_parts s ∙ rw g (rw h at (ap (λ (o : Option (List ℕ)). and_then o (λ (us : List ℕ). some (with_numbers r us))) p)) in
-              (w ∙ ap some (sym t), q ∙ rw (t, h) (line_size_lem (with_numbers r vs)))
+    module _ (f : None ≡ given (as_numbers n.numbers) (numbers_in limits (drop n.numbers s))) where
+      numberless : row_in s ≡ none
+      numberless = with n names.value names.is names.made none (given_none (as_numbers n.numbers) _ f)
 
-          go : (o : Option Row) → names_in s ≡ o → n ≡ as_names o → row_in s ≡ some (row_taken s n ns) × (end ≡ length (line_of (row_taken s n ns)))
-          go none g h = absurd (there (rw h))
-          go (some r) g h = pick r g h (numbers_in limits (drop n.numbers s)) refl f
+      pub numberless_size : None ≡ given row_length (row_in s)
+      numberless_size = none_size numberless
 
-      pub whole_size : end ≡ row_size (row_in s)
-      whole_size = rw row_whole.0 row_whole.1
+      pub numberless_block : b ≡ block_over issue k (row_in s) b
+      numberless_block = none_block numberless
 
-      pub whole_block : y ≡ block_over issue k (row_in s) b
-      whole_block = rw row_whole.0 wrote
+    module _ (m : Values) (f : Some m ≡ given (as_numbers n.numbers) (numbers_in limits (drop n.numbers s))) where
+      whole : (r : Row) → names_in s ≡ some r → n ≡ as_names r → (ns : List ℕ) → numbers_in limits (drop n.numbers s) ≡ some ns → m ≡ as_numbers n.numbers ns
+          → (row_in s ≡ some (row_taken s n m.numbers)) × (m.end ≡ length (line_of (row_taken s n m.numbers)))
+      whole r g made ns h read =
+          let v : m.numbers ≡ ns = rw read in
+          let t : row_taken s n m.numbers ≡ with_numbers r ns = rw (v, made) (row_taken_lem s r ns g) in
+          let z : m.end ≡ n.numbers + length (numbers_line ns) = rw read in
+          rw t (with n r g made (some ns) h, z ∙ rw made (line_size_lem (with_numbers r ns)))
+
+      there : (row_in s ≡ some (row_taken s n m.numbers)) × (m.end ≡ length (line_of (row_taken s n m.numbers)))
+      there =
+          let g : Given (as_numbers n.numbers) (numbers_in limits (drop n.numbers s)) m = given_some (as_numbers n.numbers) _ f in
+          whole names.value names.is names.made g.value g.is g.made
+
+      pub whole_size : Some m.end ≡ given row_length (row_in s)
+      whole_size = rw there.0 (ap Some there.1)
+
+  pub whole_block : {n : Names} {m : Values} {y : List ℕ} → y ≡ block_from issue k (row_taken s n m.numbers) → Some n ≡ given as_names (names_in s)
+      → Some m ≡ given (as_numbers n.numbers) (numbers_in limits (drop n.numbers s)) → y ≡ block_over issue k (row_in s) b
+  whole_block {n} {m} wrote e f = rw (there n e m f).0 wrote

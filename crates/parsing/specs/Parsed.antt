@@ -1,23 +1,33 @@
 -- How code reads a line: where its names stand and how long they are, then its numbers; and the row that it takes out of the list.
-use Rattle.std.specs.Prelude.{ℕ, ◌+◌, ◌≤◌, List, [], ◌≡◌, length, get_or, drop}
+use Rattle.std.specs.Prelude.{ℕ, ◌+◌, ◌≤◌, List, [], ◌≡◌, length, get_or, drop, Option as Returned, None, Some}
 use Rattle.std.proofs.Math.Option.{Option, none, some}
 use Rattle.decimals.specs.Decimal.{digit_count}
 use Rattle.decimals.specs.declared.Number.{Number}
 use Rattle.quoting.specs.Quoted.{quoted_size, name_in, taken}
 use Rattle.quoting.specs.declared.Name.{Name}
-use Rattle.rows.specs.Row.{Row, numbers_line}
+use Rattle.rows.specs.Row.{Row, numbers_line, line_of}
 use Rattle.rows.specs.RowIn.{and_then, name_after, second_at, third_at, numbers_at}
 use Rattle.rows.specs.Block.{block_from}
 use Rattle.parsing.specs.declared.Names.{Names}
+use Rattle.parsing.specs.declared.Values.{Values}
 
--- a name, and a number, behind a comma, as code has them
-abbrev pub as_name_after : Option (List ℕ) → Name
-as_name_after none = record { size = 0; length = 0 }
-as_name_after (some name) = record { size = 1 + quoted_size name; length = length name }
+-- what code returns where there may be nothing
+abbrev pub given : {A B : Type 0} → (A → B) → Option A → Returned B
+given f none = None
+given f (some a) = Some (f a)
 
-abbrev pub as_number_after : Option ℕ → Number
-as_number_after none = record { size = 0; value = 0 }
-as_number_after (some v) = record { size = 1 + digit_count v; value = v }
+-- a name and a number as code has them, and behind a comma
+abbrev pub name_here : List ℕ → Name
+name_here name = record { size = quoted_size name; length = length name }
+
+abbrev pub number_here : ℕ → Number
+number_here v = record { size = digit_count v; value = v }
+
+abbrev pub name_behind : List ℕ → Name
+name_behind name = record { size = 1 + quoted_size name; length = length name }
+
+abbrev pub number_behind : ℕ → Number
+number_behind v = record { size = 1 + digit_count v; value = v }
 
 -- the names of a line, with no numbers yet
 unfoldable pub names_in : List ℕ → Option Row
@@ -28,9 +38,8 @@ names_in s =
     some (record { public = a; private = b; server = c; numbers = [] }))))
 
 -- how long each is, and where the next field begins
-abbrev pub as_names : Option Row → Names
-as_names none = record { public = 0; private = 0; server = 0; second = 0; third = 0; numbers = 0 }
-as_names (some r) =
+abbrev pub as_names : Row → Names
+as_names r =
     record {
       public = length r.public;
       private = length r.private;
@@ -40,14 +49,12 @@ as_names (some r) =
       numbers = numbers_at r.public r.private r.server;
     }
 
--- where a line ends whose numbers begin at a place; 0 where there are none
-abbrev pub end_of : ℕ → Option (List ℕ) → ℕ
-end_of at none = 0
-end_of at (some ns) = at + length (numbers_line ns)
+-- the numbers of a line that begin at a place, and where the line ends
+abbrev pub as_numbers : ℕ → List ℕ → Values
+as_numbers at ns = record { numbers = ns; end = at + length (numbers_line ns) }
 
--- what an array holds then
-pub record Held (o : Option (List ℕ)) (after : List ℕ) : Type 0 where
-  pub numbers : (ns : List ℕ) → o ≡ some ns → after ≡ ns
+abbrev pub row_length : Row → ℕ
+row_length r = length (line_of r)
 
 -- each of the numbers that become bytes fits one
 pub record Sized (ns : List ℕ) : Type 0 where

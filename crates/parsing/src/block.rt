@@ -2,9 +2,9 @@
 ghost use Rattle.std.specs.Prelude.{◌≡◌, ◌++◌, ◌+◌, ◌-◌, ◌*◌, ◌≤◌, length, drop, replicate};
 ghost use Rattle.octets.specs.Run.{Wrote};
 ghost use Rattle.quoting.specs.Quoted.{taken};
-ghost use Rattle.rows.specs.RowIn.{row_in, row_size};
+ghost use Rattle.rows.specs.RowIn.{row_in};
 ghost use Rattle.rows.specs.Block.{padded, half_bytes, word_bytes, words_bytes, front_bytes, names_bytes, rest_bytes, unsealed, block_from};
-ghost use Rattle.parsing.specs.Parsed.{Sized, Fitted, row_taken, block_over};
+ghost use Rattle.parsing.specs.Parsed.{given, Sized, Fitted, row_taken, row_length, block_over};
 
 use crate::{Names, line};
 use octets::{name, run};
@@ -25,7 +25,7 @@ const REST: usize = Record::REST_AT - Record::ISSUE_AT;
 const ZEROS: usize = 512 - Record::REST_AT;
 
 // Kind 2, edition 2, the block's number, and the numbers and lengths that are bytes.
-fn put_front(out: &mut [u8], k: usize, n: Names, ns: &[usize])
+fn put_front(out: &mut [u8], k: usize, n: Names, ns: &[usize; 18])
     requires { (16 ≤ length out.old) × Sized ns.now × Fitted n }
     ensures { Wrote (front_bytes k ns.now n.public n.private n.server) out.old out.new 16 }
 {
@@ -89,8 +89,8 @@ fn put_words(out: &mut [u8], ws: &[usize])
     requires { (4 * length ws.now ≤ length out.old) × (length ws.now ≤ 5) }
     ensures { Wrote (words_bytes ws.now) out.old out.new (4 * length ws.now) }
 {
-    for i in 0..ws.len() {
-        put_word(&mut out[4 * i..], ws[i]);
+    for (i, w) in ws.iter().enumerate() {
+        put_word(&mut out[4 * i..], *w);
     }
 }
 
@@ -105,7 +105,7 @@ fn put_halves(out: &mut [u8], a: usize, b: usize)
 }
 
 // The capabilities, the profile and the set.
-fn put_rest(out: &mut [u8], ns: &[usize])
+fn put_rest(out: &mut [u8], ns: &[usize; 18])
     requires { (40 ≤ length out.old) × Sized ns.now }
     ensures { Wrote (rest_bytes ns.now) out.old out.new 40 }
 {
@@ -124,7 +124,7 @@ fn put_issue(out: &mut [u8], issue: usize)
 }
 
 // All of a block but its check word.
-fn put_unsealed(out: &mut [u8], s: &[u8], n: Names, ns: &[usize], k: usize, issue: usize)
+fn put_unsealed(out: &mut [u8], s: &[u8], n: Names, ns: &[usize; 18], k: usize, issue: usize)
     requires { (length out.old ≡ 512) × Sized ns.now × Fitted n }
     ensures { out.new ≡ unsealed issue k (row_taken s.now n ns.now) }
 {
@@ -135,29 +135,20 @@ fn put_unsealed(out: &mut [u8], s: &[u8], n: Names, ns: &[usize], k: usize, issu
 }
 
 // The block of a line whose names and numbers are read.
-fn put_block(out: &mut [u8], s: &[u8], n: Names, ns: &[usize], k: usize, issue: usize)
-    requires { (length out.old ≡ 512) × Sized ns.now × Fitted n }
+fn put_block(out: &mut [u8; 512], s: &[u8], n: Names, ns: &[usize; 18], k: usize, issue: usize)
+    requires { Sized ns.now × Fitted n }
     ensures { out.new ≡ block_from issue k (row_taken s.now n ns.now) }
 {
     put_unsealed(out, s, n, ns, k, issue);
     blocks::seal(out);
 }
 
-// The block of the line at the front of a slice, and how long that line is: 0 where there is none, and then nothing is written.
-pub fn read(out: &mut [u8], s: &[u8], k: usize, issue: usize) -> usize
-    requires { length out.old ≡ 512 }
-    ensures { (result ≡ row_size (row_in s.now)) × (out.new ≡ block_over issue k (row_in s.now) out.old) }
+// The block of the line at the front of a slice, and how long that line is. Where there is none, nothing is written.
+pub fn read(out: &mut [u8; 512], s: &[u8], k: usize, issue: usize) -> Option<usize>
+    ensures { (result ≡ given row_length (row_in s.now)) × (out.new ≡ block_over issue k (row_in s.now) out.old) }
 {
-    let n = line::names(s);
-    let at = n.numbers;
-    if at == 0 {
-        return 0;
-    }
-    let mut ns = [0usize; 18];
-    let end = line::numbers(s, at, &mut ns);
-    if end == 0 {
-        return 0;
-    }
-    put_block(out, s, n, &ns, k, issue);
-    end
+    let n = line::names(s)?;
+    let ns = line::numbers(s, n.numbers)?;
+    put_block(out, s, n, &ns.numbers, k, issue);
+    Some(ns.end)
 }

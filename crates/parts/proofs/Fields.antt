@@ -1,5 +1,5 @@
 -- How long the parts of a sound table are, and what stands at the number of no record.
-use Rattle.octets.specs.Standard.{ℕ, zero, suc, ◌+◌, ◌-◌, ◌*◌, ◌≤◌, ◌<◌, min, ◌≡◌, refl, sym, ◌∙◌, Bool, true, false, ◌&&◌, List, [], arith}
+use Rattle.octets.specs.Standard.{ℕ, zero, suc, ◌+◌, ◌-◌, ◌*◌, ◌≤◌, ◌<◌, min, ◌≡◌, refl, sym, Bool, true, false, ◌&&◌, List, [], arith}
 use Rattle.octets.specs.Standard.{add-sub_cancel_left, leb, ltb, length, take, drop, length-take, drop_of_length-le, take-nil, ltb-true, leb-true}
 use Rattle.octets.specs.Standard.{leb-false, ne_eqb, lt-ltb}
 use Rattle.octets.specs.Number.{be16_at, be32_at}
@@ -27,14 +27,14 @@ unfolding block_of
 past t count k e h = rw (drop_of_length-le t {i = 512 * k} (omega arith)) (take-nil 512)
 
 -- a block number is a record's or not
-record_first : (count k : ℕ) {x : Bool} → x ≡ (ltb 0 k && leb k count) → x ≡ true → 1 ≤ k
-record_first count k e h = ltb-true 0 k (and_left (ltb 0 k) (leb k count) (sym e ∙ h))
+record_first : (count k : ℕ) → (ltb 0 k && leb k count) ≡ true → 1 ≤ k
+record_first count k h = ltb-true 0 k (and_left (ltb 0 k) (leb k count) h)
 
-record_last : (count k : ℕ) {x : Bool} → x ≡ (ltb 0 k && leb k count) → x ≡ true → k ≤ count
-record_last count k e h = leb-true k count (and_right (ltb 0 k) (leb k count) (sym e ∙ h))
+record_last : (count k : ℕ) → (ltb 0 k && leb k count) ≡ true → k ≤ count
+record_last count k h = leb-true k count (and_right (ltb 0 k) (leb k count) h)
 
-pub record_room : (t : List ℕ) (count k : ℕ) {x : Bool} → SoundTable t count → x ≡ (ltb 0 k && leb k count) → x ≡ true → 512 * k + 512 ≤ length t
-record_room t count k s e h = let b : k ≤ count = record_last count k e h in omega (arith, sound_size t count s)
+pub record_room : (t : List ℕ) (count k : ℕ) → SoundTable t count → (ltb 0 k && leb k count) ≡ true → 512 * k + 512 ≤ length t
+record_room t count k s h = let b : k ≤ count = record_last count k h in omega (arith, sound_size t count s)
 
 module _ (f : List ℕ → List ℕ) (most : ℕ) (t : List ℕ) (count : ℕ) (s : Field f most t count) where
   other : (k : ℕ) → (ltb 0 k && leb k count) ≡ false → of_block f t k ≡ []
@@ -43,23 +43,26 @@ module _ (f : List ℕ → List ℕ) (most : ℕ) (t : List ℕ) (count : ℕ) (
       let l : leb (suc k) count ≡ false = rw (lt-ltb 0 (suc k) (omega arith)) at e in
       rw (past t count (suc k) s.size (leb-false (suc k) count l), ne_eqb (suc k) 0 (omega arith)) s.nothing
 
-  module _ (k : ℕ) (b y : List ℕ) {x : Bool} (e : x ≡ (ltb 0 k && leb k count)) (h : x ≡ true) (eb : b ≡ block_of t k) (ey : y ≡ f b) where
+  module _ (k : ℕ) (b y : List ℕ) (h : (ltb 0 k && leb k count) ≡ true) (eb : b ≡ block_of t k) (ey : y ≡ f b) where
     pub part_there : y ≡ of_block f t k
-    part_there = let a : 1 ≤ k = record_first count k e h in rw (ne_eqb k 0 (omega arith), ← eb) ey
+    part_there = let a : 1 ≤ k = record_first count k h in rw (ne_eqb k 0 (omega arith), ← eb) ey
 
     pub part_short : length y ≤ most
-    part_short = rw (ey, eb) (s.short k (record_first count k e h) (record_last count k e h))
+    part_short = rw (ey, eb) (s.short k (record_first count k h) (record_last count k h))
 
-  pub part_none : (k : ℕ) {x : Bool} → x ≡ (ltb 0 k && leb k count) → x ≡ false → [] ≡ of_block f t k
-  part_none k e h = sym (other k (sym e ∙ h))
+    pub part_given : (y ≡ of_block f t k) × (length y ≤ most)
+    part_given = (part_there, part_short)
+
+  pub part_none : (k : ℕ) → (ltb 0 k && leb k count) ≡ false → ([] ≡ of_block f t k) × (0 ≤ most)
+  part_none k h = (sym (other k h), omega arith)
 
   pub part_length : (k : ℕ) → length (of_block f t k) ≤ most
   part_length k = go (ltb 0 k && leb k count) refl
     where
       go : (x : Bool) → (ltb 0 k && leb k count) ≡ x → length (of_block f t k) ≤ most
       go true e =
-          rw (← part_there k (block_of t k) (f (block_of t k)) (sym e) refl refl refl)
-          (part_short k (block_of t k) (f (block_of t k)) (sym e) refl refl refl)
+          rw (← part_there k (block_of t k) (f (block_of t k)) e refl refl)
+          (part_short k (block_of t k) (f (block_of t k)) e refl refl)
       go false e = rw (other k e) (omega arith)
 
 -- The header's names.
@@ -114,17 +117,17 @@ module _ (t : List ℕ) (count : ℕ) (s : SoundTable t count) where
     short = λ k a b. cut (4 * optional_count (block_of t k)) 16 _ (omega (arith, (sound_limits_lem t count s k a b).optional));
   }
 
-  module _ (k : ℕ) (b : List ℕ) (n : ℕ) {x : Bool} (e : x ≡ (ltb 0 k && leb k count)) (h : x ≡ true) (eb : b ≡ block_of t k) where
+  module _ (k : ℕ) (b : List ℕ) (n : ℕ) (h : (ltb 0 k && leb k count) ≡ true) (eb : b ≡ block_of t k) where
     pub mandatory_few : n ≡ mandatory_count b → n ≤ 4
     unfolding record_of
     mandatory_few en =
-        let l = sound_limits_lem t count s k (record_first count k e h) (record_last count k e h) in
+        let l = sound_limits_lem t count s k (record_first count k h) (record_last count k h) in
         rw (en, eb) l.mandatory
 
     pub optional_few : n ≡ optional_count b → n ≤ 4
     unfolding record_of
     optional_few en =
-        let l = sound_limits_lem t count s k (record_first count k e h) (record_last count k e h) in
+        let l = sound_limits_lem t count s k (record_first count k h) (record_last count k h) in
         rw (en, eb) l.optional
 
 -- The words that are lent; as the capabilities of a block.
@@ -160,16 +163,6 @@ module _ (t file : List ℕ) (count : ℕ) (s : SoundTable t count) where
   pub profile_field : Field (λ (b : List ℕ). profile_of b file) 4096 t count
   unfolding profile_of record_of be16_at be32_at
   profile_field = record { size = sound_size t count s; nothing = refl; short = λ k a b. cut _ 4096 _ (sound_limits_lem t count s k a b).size }
-
-  module _ (k : ℕ) (b y : List ℕ) {x : Bool} (e : x ≡ (ltb 0 k && leb k count)) (h : x ≡ true) (eb : b ≡ block_of t k) (ey : y ≡ profile_of b file) where
-    pub profile_there : y ≡ profile_at t file k
-    profile_there = part_there (λ (d : List ℕ). profile_of d file) 4096 t count profile_field k b y e h eb ey
-
-    pub profile_short : length y ≤ 4096
-    profile_short = part_short (λ (d : List ℕ). profile_of d file) 4096 t count profile_field k b y e h eb ey
-
-  pub profile_none : (k : ℕ) {x : Bool} → x ≡ (ltb 0 k && leb k count) → x ≡ false → [] ≡ profile_at t file k
-  profile_none k e h = part_none (λ (d : List ℕ). profile_of d file) 4096 t count profile_field k e h
 
   pub profile_length : (k : ℕ) → length (profile_at t file k) ≤ 4096
   profile_length k = part_length (λ (d : List ℕ). profile_of d file) 4096 t count profile_field k

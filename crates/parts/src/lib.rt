@@ -1,12 +1,13 @@
 #![tactic(auto)]
 // What an answer takes out of the table and the profile file, as parts of them.
-ghost use Rattle.std.specs.Prelude.{◌≡◌, ◌&&◌, ◌+◌, ◌*◌, ◌≤◌, length, take, drop, leb, ltb};
+ghost use Rattle.std.specs.Prelude.{◌≡◌, ◌&&◌, ◌+◌, ◌*◌, ◌≤◌, length, take, drop, leb, ltb, true, false, MatchOption};
 ghost use Rattle.record.specs.Fields.{host_of, realm_of, private_of, public_of, server_of, mandatory_of, optional_of, profile_of};
 ghost use Rattle.blocks.specs.Blocks.{block_of, of_block};
 ghost use Rattle.table.specs.SoundTable.{SoundTable};
 ghost use Rattle.parts.specs.Profile.{profile_at};
 
-use octets::{name, number};
+use blocks::BLOCK;
+use octets::number;
 use record::fields;
 use record::subscriber::Record;
 
@@ -25,11 +26,16 @@ pub fn realm(t: &[u8], count: usize) -> &[u8]
     fields::realm(blocks::block(t, 0))
 }
 
-// Whether a block number is a record's.
-fn has_record(count: usize, k: usize) -> bool
-    ensures { result ≡ (ltb 0 k && leb k count) }
+// The block of record k, where k is a record's number.
+fn record(t: &[u8], count: usize, k: usize) -> Option<&[u8; BLOCK]>
+    requires { SoundTable t.now count }
+    ensures { MatchOption result ((ltb 0 k && leb k count) ≡ false)
+        (λ b. ((ltb 0 k && leb k count) ≡ true) × (b.now ≡ block_of t.now k)) }
 {
-    (0 < k) & (k <= count)
+    if (0 < k) & (k <= count) {
+        return Some(blocks::block(t, k));
+    }
+    None
 }
 
 // Of record k: its private identity, its public identity, its server name, its capabilities. Where k is no record's number, nothing.
@@ -37,35 +43,35 @@ pub fn user(t: &[u8], count: usize, k: usize) -> &[u8]
     requires { SoundTable t.now count }
     ensures { (result.now ≡ of_block private_of t.now k) × (length result.now ≤ 128) }
 {
-    if has_record(count, k) {
-        return fields::private(blocks::block(t, k));
+    match record(t, count, k) {
+        Some(b) => fields::private(b),
+        None => &[],
     }
-    &t[..0]
 }
 
 pub fn public(t: &[u8], count: usize, k: usize) -> &[u8]
     requires { SoundTable t.now count }
     ensures { (result.now ≡ of_block public_of t.now k) × (length result.now ≤ 128) }
 {
-    if has_record(count, k) {
-        return fields::public(blocks::block(t, k));
+    match record(t, count, k) {
+        Some(b) => fields::public(b),
+        None => &[],
     }
-    &t[..0]
 }
 
 pub fn server(t: &[u8], count: usize, k: usize) -> &[u8]
     requires { SoundTable t.now count }
     ensures { (result.now ≡ of_block server_of t.now k) × (length result.now ≤ 96) }
 {
-    if has_record(count, k) {
-        return fields::server(blocks::block(t, k));
+    match record(t, count, k) {
+        Some(b) => fields::server(b),
+        None => &[],
     }
-    &t[..0]
 }
 
 // The n words from a place of a block on.
-fn words(b: &[u8], at: usize, n: usize) -> &[u8]
-    requires { (n ≤ 4) × (at + 16 ≤ length b.now) }
+fn words(b: &[u8; BLOCK], at: usize, n: usize) -> &[u8]
+    requires { (n ≤ 4) × (at + 16 ≤ 512) }
     ensures { result.now ≡ take (4 * n) (drop at b.now) }
 {
     &b[at..at + 4 * n]
@@ -75,43 +81,37 @@ pub fn mandatory(t: &[u8], count: usize, k: usize) -> &[u8]
     requires { SoundTable t.now count }
     ensures { (result.now ≡ of_block mandatory_of t.now k) × (length result.now ≤ 16) }
 {
-    if has_record(count, k) {
-        let b = blocks::block(t, k);
-        return words(
+    match record(t, count, k) {
+        Some(b) => words(
             b,
             Record::MANDATORY_AT,
             octets::byte(b, Record::MANDATORY_COUNT_AT),
-        );
+        ),
+        None => &[],
     }
-    &t[..0]
 }
 
 pub fn optional(t: &[u8], count: usize, k: usize) -> &[u8]
     requires { SoundTable t.now count }
     ensures { (result.now ≡ of_block optional_of t.now k) × (length result.now ≤ 16) }
 {
-    if has_record(count, k) {
-        let b = blocks::block(t, k);
-        return words(
+    match record(t, count, k) {
+        Some(b) => words(
             b,
             Record::OPTIONAL_AT,
             octets::byte(b, Record::OPTIONAL_COUNT_AT),
-        );
+        ),
+        None => &[],
     }
-    &t[..0]
 }
 
 // The part of the profile file that a record's block names, cut at the file's end.
-fn profile_in<'a>(b: &[u8], file: &'a [u8]) -> &'a [u8]
-    requires { length b.now ≡ 512 }
+fn profile_in<'a>(b: &[u8; BLOCK], file: &'a [u8]) -> &'a [u8]
     ensures { result.now ≡ profile_of b.now file.now }
 {
-    let from = name::smaller(
-        number::be32(b, Record::PROFILE_START_AT) as usize,
-        file.len(),
-    );
+    let from = (number::be32(b, Record::PROFILE_START_AT) as usize).min(file.len());
     let size = number::be16(b, Record::PROFILE_LENGTH_AT) as usize;
-    let to = from + name::smaller(size, file.len() - from);
+    let to = from + size.min(file.len() - from);
     &file[from..to]
 }
 
@@ -120,8 +120,8 @@ pub fn profile<'a>(t: &[u8], count: usize, file: &'a [u8], k: usize) -> &'a [u8]
     requires { SoundTable t.now count }
     ensures { (result.now ≡ profile_at t.now file.now k) × (length result.now ≤ 4096) }
 {
-    if has_record(count, k) {
-        return profile_in(blocks::block(t, k), file);
+    match record(t, count, k) {
+        Some(b) => profile_in(b, file),
+        None => &[],
     }
-    &file[..0]
 }

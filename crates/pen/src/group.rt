@@ -65,29 +65,33 @@ pub fn put_failed(out: &mut [u8], src: &[u8]) -> usize
     8 + crate::put_copy(&mut out[8..], src)
 }
 
-// The first n words of src, each as an AVP of vendor 10415.
-fn put_numbers(out: &mut [u8], code: u32, src: &[u8], n: usize) -> usize
-    requires { (4 * n ≤ length src.now) × (16 * n ≤ length out.old) }
-    ensures { (result ≡ 16 * n) × Wrote (vendor_numbers code src.now n) out.old out.new result }
+// The words of src, each as an AVP of vendor 10415.
+fn put_numbers(out: &mut [u8], code: u32, src: &[u8]) -> usize
+    requires { 16 * words src.now ≤ length out.old }
+    ensures { (result ≡ 16 * words src.now)
+        × Wrote (vendor_numbers code src.now (words src.now)) out.old out.new result }
 {
+    let (numbers, _) = src.as_chunks::<4>();
     let mut at = 0;
-    for i in 0..n {
-        let from = 4 * i;
-        let to = from + 4;
-        at += crate::put_vendor_avp(&mut out[at..], code, &src[from..to]);
+    for n in numbers {
+        at += crate::put_vendor_avp(&mut out[at..], code, n);
     }
     at
 }
 
-// Server-Capabilities of so many words each, which are not none.
-fn put_members(out: &mut [u8], mandatory: &[u8], optional: &[u8], m: usize, o: usize) -> usize
-    requires { (m ≡ words mandatory.now) × (o ≡ words optional.now) × (m + o ≡ 0 → ⊥) × (capabilities_size m o ≤ length out.old) }
-    ensures { (result ≤ capabilities_size m o)
+// Server-Capabilities, of which there are some.
+fn put_members(out: &mut [u8], mandatory: &[u8], optional: &[u8]) -> usize
+    requires { (words mandatory.now + words optional.now ≡ 0 → ⊥) × (capabilities_size (words mandatory.now) (words optional.now) ≤ length out.old) }
+    ensures { (result ≡ capabilities_size (words mandatory.now) (words optional.now))
         × Wrote (capabilities mandatory.now optional.now) out.old out.new result }
 {
-    crate::put_vendor_head(out, codes::SERVER_CAPABILITIES, 12 + 16 * m + 16 * o);
-    let a = 12 + put_numbers(&mut out[12..], codes::MANDATORY_CAPABILITY, mandatory, m);
-    a + put_numbers(&mut out[a..], codes::OPTIONAL_CAPABILITY, optional, o)
+    crate::put_vendor_head(
+        out,
+        codes::SERVER_CAPABILITIES,
+        12 + 16 * (mandatory.len() / 4) + 16 * (optional.len() / 4),
+    );
+    let a = 12 + put_numbers(&mut out[12..], codes::MANDATORY_CAPABILITY, mandatory);
+    a + put_numbers(&mut out[a..], codes::OPTIONAL_CAPABILITY, optional)
 }
 
 // Server-Capabilities, or nothing where there are none.
@@ -96,12 +100,10 @@ pub fn put_capabilities(out: &mut [u8], mandatory: &[u8], optional: &[u8]) -> us
     ensures { (result ≤ length out.old) × (result ≤ capabilities_size (words mandatory.now) (words optional.now))
         × Wrote (capabilities mandatory.now optional.now) out.old out.new result }
 {
-    let m = mandatory.len() / 4;
-    let o = optional.len() / 4;
-    if m + o == 0 {
+    if mandatory.len() / 4 + optional.len() / 4 == 0 {
         return 0;
     }
-    put_members(out, mandatory, optional, m, o)
+    put_members(out, mandatory, optional)
 }
 
 // Supported-Features: the server's own list, of list 1.
@@ -109,8 +111,9 @@ pub fn put_features(out: &mut [u8], set: u32) -> usize
     requires { 56 ≤ length out.old }
     ensures { (result ≡ 56) × Wrote (own_features set) out.old out.new result }
 {
-    crate::put_plain_head(out, codes::SUPPORTED_FEATURES, 56);
+    crate::put_long_head(out, codes::SUPPORTED_FEATURES, crate::PLAIN_FLAGS, 56);
     let a = 12 + crate::put_number(&mut out[12..], codes::VENDOR_ID, codes::VENDOR);
-    let b = a + crate::put_plain_number(&mut out[a..], codes::FEATURE_LIST_ID, 1);
-    b + crate::put_plain_number(&mut out[b..], codes::FEATURE_LIST, set)
+    let b = a
+        + crate::put_long_number(&mut out[a..], codes::FEATURE_LIST_ID, crate::PLAIN_FLAGS, 1);
+    b + crate::put_long_number(&mut out[b..], codes::FEATURE_LIST, crate::PLAIN_FLAGS, set)
 }

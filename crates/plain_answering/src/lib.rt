@@ -12,12 +12,12 @@ ghost use Rattle.envelope.specs.Front.{front_bytes};
 ghost use Rattle.envelope.specs.End.{failed_part, proxies, end_bytes};
 ghost use Rattle.reply.specs.Pieces.{top_bytes};
 ghost use Rattle.answering.specs.Answer.{rest_bytes, body_bytes, answer_bytes};
-ghost use Rattle.plain_reading.specs.Listed.{places_of};
 
 use answering::Ground;
 use choices::Given;
 use envelope::{front, header, last};
 use plain_looks::{put_proxies, session};
+use plain_reading::Listed;
 use reading::{Outcome, Terms, Verdict};
 use reply::given;
 
@@ -29,107 +29,77 @@ pub struct Carried {
 }
 
 // "Then Session-Id if it is the first AVP and passes (a) to (c); 260 (266, 258); Result-Code 268 or Experimental-Result 297 (266, 298); 277 of 1"
-fn put_front(out: &mut [u8], req: &[u8], list: &[u16], terms: Terms, o: Outcome) -> usize
-    requires { (list.now ≡ places_of req.now) × (length (front_bytes terms (session_of (body_of req.now)) o) ≤ length out.old) }
-    ensures { (result ≤ length out.old) × Wrote (front_bytes terms (session_of (body_of req.now)) o) out.old
+fn put_front(out: &mut [u8], l: &Listed, terms: Terms, o: Outcome) -> usize
+    requires { length (front_bytes terms (session_of (body_of l.now.req.now)) o) ≤ length out.old }
+    ensures { (result ≤ length out.old) × Wrote (front_bytes terms (session_of (body_of l.now.req.now)) o) out.old
         out.new result }
 {
-    front::put_start(out, session(req, list), terms, o)
+    front::put_start(out, session(l), terms, o)
 }
 
 // ".. 264; 296", and the own list "right after 296"
-fn put_top(out: &mut [u8], req: &[u8], list: &[u16], t: &[u8], ground: Ground, o: Outcome) -> usize
-    requires { (list.now ≡ places_of req.now) × SoundTable t.now ground.count × (ground.wanted ≡ wanted_of ground.dialect.terms req.now)
-        × (length (top_bytes ground.dialect.terms req.now t.now o) ≤ length out.old) }
+fn put_top(out: &mut [u8], l: &Listed, t: &[u8], ground: Ground, o: Outcome) -> usize
+    requires { SoundTable t.now ground.count × (ground.wanted ≡ wanted_of ground.dialect.terms l.now.req.now)
+        × (length (top_bytes ground.dialect.terms l.now.req.now t.now o) ≤ length out.old) }
     ensures { (result ≤ length out.old)
-        × Wrote (top_bytes ground.dialect.terms req.now t.now o) out.old out.new result }
+        × Wrote (top_bytes ground.dialect.terms l.now.req.now t.now o) out.old out.new result }
 {
-    let dialect = ground.dialect;
-    let terms = dialect.terms;
-    let wanted = ground.wanted;
-    let a = put_front(out, req, list, terms, o);
-    a + reply::front::put_server(&mut out[a..], req, t, ground.count, terms, wanted.listed)
+    let terms = ground.dialect.terms;
+    let a = put_front(out, l, terms, o);
+    a + reply::front::put_server(
+        &mut out[a..],
+        l.req,
+        t,
+        ground.count,
+        terms,
+        ground.wanted.listed,
+    )
 }
 
 // "Failed-AVP 279; every Proxy-Info before the first length fault, other faults or not"
-fn put_end(out: &mut [u8], req: &[u8], list: &[u16], v: Verdict) -> usize
-    requires { (list.now ≡ places_of req.now)
-        × (length (failed_part (failed_by req.now v)) + length (proxies (body_of req.now)) ≤ length out.old) }
-    ensures { (result ≤ length out.old) × Wrote (end_bytes req.now v) out.old out.new result }
+fn put_end(out: &mut [u8], l: &Listed, v: Verdict) -> usize
+    requires { length (failed_part (failed_by l.now.req.now v)) + length (proxies (body_of l.now.req.now)) ≤ length out.old }
+    ensures { (result ≤ length out.old) × Wrote (end_bytes l.now.req.now v) out.old out.new result }
 {
-    let a = last::put_failed(out, req, v);
-    a + put_proxies(&mut out[a..], req, list)
+    let a = last::put_failed(out, l.req, v);
+    a + put_proxies(&mut out[a..], l)
 }
 
 // "User-Name ..; Server-Name ..; Server-Capabilities 603 ..; User-Data 606 ..", and the end.
-fn put_rest(
-    out: &mut [u8],
-    req: &[u8],
-    list: &[u16],
-    t: &[u8],
-    file: &[u8],
-    v: &[u8],
-    c: Carried,
-) -> usize
-    requires { (list.now ≡ places_of req.now) × SoundTable t.now c.ground.count × Sendable v.now c.given.sent
-        × (length (rest_bytes req.now t.now file.now v.now c.given) ≤ length out.old) }
+fn put_rest(out: &mut [u8], l: &Listed, t: &[u8], file: &[u8], v: &[u8], c: Carried) -> usize
+    requires { SoundTable t.now c.ground.count × Sendable v.now c.given.sent
+        × (length (rest_bytes l.now.req.now t.now file.now v.now c.given) ≤ length out.old) }
     ensures { (result ≤ length out.old)
-        × Wrote (rest_bytes req.now t.now file.now v.now c.given) out.old out.new result }
+        × Wrote (rest_bytes l.now.req.now t.now file.now v.now c.given) out.old out.new result }
 {
-    let ground = c.ground;
-    let g = c.given;
-    let verdict = g.verdict;
-    let a = given::put_given(out, t, file, v, ground.count, g);
-    a + put_end(&mut out[a..], req, list, verdict)
+    let a = given::put_given(out, t, file, v, c.ground.count, c.given);
+    a + put_end(&mut out[a..], l, c.given.verdict)
 }
 
 // All after the header.
-fn put_body(
-    out: &mut [u8],
-    req: &[u8],
-    list: &[u16],
-    t: &[u8],
-    file: &[u8],
-    v: &[u8],
-    c: Carried,
-) -> usize
-    requires { (list.now ≡ places_of req.now) × SoundTable t.now c.ground.count
-        × (c.ground.wanted ≡ wanted_of c.ground.dialect.terms req.now) × Sendable v.now c.given.sent
-        × (length (body_bytes c.ground.dialect.terms req.now t.now file.now v.now c.given) ≤ length out.old) }
+fn put_body(out: &mut [u8], l: &Listed, t: &[u8], file: &[u8], v: &[u8], c: Carried) -> usize
+    requires { SoundTable t.now c.ground.count
+        × (c.ground.wanted ≡ wanted_of c.ground.dialect.terms l.now.req.now) × Sendable v.now c.given.sent
+        × (length (body_bytes c.ground.dialect.terms l.now.req.now t.now file.now v.now c.given) ≤ length out.old) }
     ensures { (result ≤ length out.old)
-        × Wrote (body_bytes c.ground.dialect.terms req.now t.now file.now v.now c.given)
+        × Wrote (body_bytes c.ground.dialect.terms l.now.req.now t.now file.now v.now c.given)
         out.old out.new result }
 {
-    let ground = c.ground;
-    let g = c.given;
-    let verdict = g.verdict;
-    let result = verdict.result;
-    let a = put_top(out, req, list, t, ground, result);
-    a + put_rest(&mut out[a..], req, list, t, file, v, c)
+    let a = put_top(out, l, t, c.ground, c.given.verdict.result);
+    a + put_rest(&mut out[a..], l, t, file, v, c)
 }
 
 // "Header: version 1, flags P as received and E exactly for 3xxx, no others, length its own, the rest as received." It is written last, since its
 // length is known then.
-pub fn answer(
-    out: &mut [u8],
-    req: &[u8],
-    list: &[u16],
-    t: &[u8],
-    file: &[u8],
-    v: &[u8],
-    c: Carried,
-) -> usize
-    requires { (20 ≤ length req.now) × (list.now ≡ places_of req.now) × SoundTable t.now c.ground.count
-        × (c.ground.wanted ≡ wanted_of c.ground.dialect.terms req.now) × Sendable v.now c.given.sent
-        × (length (answer_bytes c.ground.dialect.terms req.now t.now file.now v.now c.given) ≤ 36864) × (36864 ≤ length out.old) }
+pub fn answer(out: &mut [u8], l: &Listed, t: &[u8], file: &[u8], v: &[u8], c: Carried) -> usize
+    requires { (20 ≤ length l.now.req.now) × SoundTable t.now c.ground.count
+        × (c.ground.wanted ≡ wanted_of c.ground.dialect.terms l.now.req.now) × Sendable v.now c.given.sent
+        × (length (answer_bytes c.ground.dialect.terms l.now.req.now t.now file.now v.now c.given) ≤ 36864) × (36864 ≤ length out.old) }
     ensures { (result ≤ 36864)
-        × Wrote (answer_bytes c.ground.dialect.terms req.now t.now file.now v.now c.given)
+        × Wrote (answer_bytes c.ground.dialect.terms l.now.req.now t.now file.now v.now c.given)
         out.old out.new result }
 {
-    let g = c.given;
-    let verdict = g.verdict;
-    let result = verdict.result;
-    let n = 20 + put_body(&mut out[20..], req, list, t, file, v, c);
-    header::put_header(out, req, result, n);
+    let n = 20 + put_body(&mut out[20..], l, t, file, v, c);
+    header::put_header(out, l.req, c.given.verdict.result, n);
     n
 }

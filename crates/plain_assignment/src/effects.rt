@@ -13,10 +13,9 @@ ghost use Rattle.assignment.specs.Assignment.{find_all, numbers_of, owned_up_to}
 
 use blocks::block;
 use diameter::message;
-use lookup::Found;
 use plain_table::subscriber;
 use requests::identities;
-use requests::identities::Next;
+use requests::identities::Identity;
 use rewrite::Change;
 
 // Whether block j is block k or of its set.
@@ -32,21 +31,20 @@ pub fn change_set(t: &mut [u8], count: usize, k: usize, c: Change, name: &[u8])
     requires { SoundTable t.old count × (1 ≤ k) × (k ≤ count) × ChangeFits c name.now }
     ensures { t.new ≡ after_of t.old count (reaches t.old (k ∷ [])) (change_of c name.now) }
 {
+    // From 0 on, as the proofs count what is written: with `1..=count` the last turn would be proved twice.
     for i in 0..count {
-        let j = i + 1;
-        let chosen = reached(t, k, j);
-        rewrite::change_if(t, j, chosen, c, name);
+        let chosen = reached(t, k, i + 1);
+        rewrite::change_if(t, i + 1, chosen, c, name);
     }
 }
 
 // A record that was found or not.
-fn settle_found(t: &mut [u8], count: usize, f: Found, state: u8, server: &[u8])
+fn settle_found(t: &mut [u8], count: usize, f: Option<u32>, state: u8, server: &[u8])
     requires { SoundTable t.old count × Among count f × Fitting state server.now }
     ensures { t.new ≡ after_of t.old count (reaches t.old (numbers_of (f ∷ []))) (settled state server.now) }
 {
-    match f {
-        Found::At(k) => change_set(t, count, k as usize, Change::Settled(state), server),
-        Found::Nothing => {}
+    if let Some(k) = f {
+        change_set(t, count, k as usize, Change::Settled(state), server);
     }
 }
 
@@ -58,10 +56,7 @@ pub fn settle_named(t: &mut [u8], count: usize, req: &[u8], state: u8, server: &
         (settled state server.now) }
 {
     let mut at = message::BODY;
-    while at < req.len() {
-        let Next::At { place, past } = identities::next_identity(req, at) else {
-            return;
-        };
+    while let Some(Identity { place, past }) = identities::next_identity(req, at) {
         let f = plain_lookup::find_public(t, count, diameter::data_at(req, place));
         settle_found(t, count, f, state, server);
         at = past;
@@ -75,9 +70,9 @@ pub fn settle_owned(t: &mut [u8], count: usize, user: &[u8], state: u8, server: 
         ≡ after_of t.old count (reaches t.old (owned_up_to t.old user.now count))
         (settled state server.now) }
 {
+    // From 0 on, as above.
     for i in 0..count {
-        let k = i + 1;
-        let chosen = crate::owned(block(t, k), user);
-        rewrite::change_if(t, k, chosen, Change::Settled(state), server);
+        let chosen = crate::owned(block(t, i + 1), user);
+        rewrite::change_if(t, i + 1, chosen, Change::Settled(state), server);
     }
 }

@@ -19,15 +19,16 @@ ghost use Rattle.deciding.specs.Decide.{faulted, decide};
 ghost use Rattle.deciding.specs.DeedFits.{DeedFits};
 ghost use Rattle.deciding.specs.Deeds.{carried_out, spent_by};
 ghost use Rattle.deciding.specs.Plans.{numbers_in, uar_plan, sar_plan, lir_plan, mar_plan};
-ghost use Rattle.plain_reading.specs.Listed.{places_of};
 ghost use Rattle.plain_deciding.specs.Says.{Says};
 
 use answering::Ground;
 use blocks::block;
+use choices::giving;
 use choices::plan::{Deed, Plan, Sar, Settling};
-use choices::{giving, plan, types};
+use choices::types::AssignmentType;
 use plain_answering::Carried;
 use plain_assignment::effects;
+use plain_reading::Listed;
 use reading::{Outcome, Verdict, experimental, kinds};
 use record::header::Header;
 use requests::places;
@@ -43,11 +44,12 @@ pub struct Said {
 }
 
 // "UAR.", of User-Name, Public-Identity, Visited-Network-Identifier and User-Authorization-Type.
+#[tactic(auto, unfolding(deciding::specs::Plans::uar_plan))]
 fn plan_uar(req: &[u8], t: &[u8], count: usize, found: [usize; kinds::KINDS]) -> Plan
     requires { SoundTable t.now count }
     ensures { result ≡ uar_plan t.now count (seen_of req.now found) }
 {
-    plan::reply_only(plain_questions::authorize(
+    Plan::reply_only(plain_questions::authorize(
         t,
         count,
         places::data_of(req, found, kinds::USER_NAME),
@@ -63,7 +65,7 @@ fn numbers(req: &[u8], t: &[u8], found: [usize; kinds::KINDS]) -> Sar
     ensures { result ≡ numbers_in t.now (seen_of req.now found) }
 {
     Sar {
-        kind: types::type_of(places::value_of(req, found, kinds::ASSIGNMENT_TYPE)),
+        kind: AssignmentType::from(places::value_of(req, found, kinds::ASSIGNMENT_TYPE)),
         already: places::value_of(req, found, kinds::DATA_AVAILABLE),
         named: places::given(req, found, kinds::USER_NAME),
         keep: octets::byte(block(t, 0), Header::KEEP_AT) == 1,
@@ -71,26 +73,26 @@ fn numbers(req: &[u8], t: &[u8], found: [usize; kinds::KINDS]) -> Sar
 }
 
 // "SAR."
+#[tactic(auto, unfolding(deciding::specs::Plans::sar_plan, deciding::specs::Plans::assignment_of))]
 fn plan_sar(req: &[u8], t: &[u8], count: usize, found: [usize; kinds::KINDS]) -> Plan
     requires { SoundTable t.now count }
     ensures { result ≡ sar_plan req.now t.now count (seen_of req.now found) }
 {
-    plain_assignment::plan_sar(
-        t,
-        count,
-        req,
-        numbers(req, t, found),
-        places::data_of(req, found, kinds::SERVER_NAME),
-        places::data_of(req, found, kinds::USER_NAME),
-    )
+    let said = assignment::Said {
+        numbers: numbers(req, t, found),
+        server: places::data_of(req, found, kinds::SERVER_NAME),
+        user: places::data_of(req, found, kinds::USER_NAME),
+    };
+    plain_assignment::plan_sar(t, count, req, &said)
 }
 
 // "LIR."
+#[tactic(auto, unfolding(deciding::specs::Plans::lir_plan))]
 fn plan_lir(req: &[u8], t: &[u8], count: usize, found: [usize; kinds::KINDS]) -> Plan
     requires { SoundTable t.now count }
     ensures { result ≡ lir_plan t.now count (seen_of req.now found) }
 {
-    plan::reply_only(plain_questions::locate(
+    Plan::reply_only(plain_questions::locate(
         t,
         count,
         places::data_of(req, found, kinds::PUBLIC_IDENTITY),
@@ -98,6 +100,7 @@ fn plan_lir(req: &[u8], t: &[u8], count: usize, found: [usize; kinds::KINDS]) ->
 }
 
 // 02 [1]'s authentication request.
+#[tactic(auto, unfolding(deciding::specs::Plans::mar_plan))]
 fn plan_mar(req: &[u8], t: &[u8], count: usize, v: &[u8], found: [usize; kinds::KINDS]) -> Plan
     requires { SoundTable t.now count × SoundVectors v.now }
     ensures { result ≡ mar_plan t.now count v.now (seen_of req.now found) }
@@ -125,20 +128,16 @@ pub fn plan_read(
     ensures { Planned ground.dialect req.now t.now ground.count v.now (seen_of req.now found) result }
 {
     let count = ground.count;
-    let dialect = ground.dialect;
-    if dialect.command == reading::UAR {
-        return plan_uar(req, t, count, found);
+    match ground.dialect.command {
+        reading::UAR => plan_uar(req, t, count, found),
+        reading::SAR => plan_sar(req, t, count, found),
+        reading::LIR => plan_lir(req, t, count, found),
+        _ => plan_mar(req, t, count, v, found),
     }
-    if dialect.command == reading::SAR {
-        return plan_sar(req, t, count, found);
-    }
-    if dialect.command == reading::LIR {
-        return plan_lir(req, t, count, found);
-    }
-    plan_mar(req, t, count, v, found)
 }
 
 // "name stored", "name kept"; "no name"
+#[tactic(auto, unfolding(assignment::specs::Assignment::stored_name))]
 fn stored(named: bool, server: &[u8]) -> &[u8]
     ensures { result.now ≡ stored_name named server.now }
 {
@@ -168,6 +167,7 @@ fn challenge(t: &mut [u8], count: usize, req: &[u8], found: [usize; kinds::KINDS
 }
 
 // The records.
+#[tactic(auto, unfolding(deciding::specs::Deeds::carried_out))]
 fn carry_out(t: &mut [u8], count: usize, req: &[u8], found: [usize; kinds::KINDS], d: Deed)
     requires { SoundTable t.old count × DeedFits count (data_seen (seen_of req.now found) server_name) d }
     ensures { t.new ≡ carried_out req.now t.old count (seen_of req.now found) d }
@@ -180,14 +180,13 @@ fn carry_out(t: &mut [u8], count: usize, req: &[u8], found: [usize; kinds::KINDS
 }
 
 // The vectors: those that are sent "are marked used".
+#[tactic(auto, unfolding(deciding::specs::Deeds::spent_by))]
 fn spend(v: &mut [u8], sent: Sent, d: Deed)
     requires { SoundVectors v.old × Sendable v.old sent }
     ensures { v.new ≡ spent_by v.old sent d }
 {
-    match d {
-        Deed::Leave => {}
-        Deed::Settle(_) => {}
-        Deed::Challenge(_) => mark::spend(v, sent),
+    if let Deed::Challenge(_) = d {
+        mark::spend(v, sent);
     }
 }
 
@@ -211,42 +210,27 @@ fn carry(t: &mut [u8], v: &mut [u8], req: &[u8], h: Held, p: Plan)
     ensures { (t.new ≡ carried_out req.now t.old h.ground.count (seen_of req.now h.found) p.deed)
         × (v.new ≡ spent_by v.old p.given.sent p.deed) }
 {
-    let ground = h.ground;
-    let found = h.found;
-    let d = p.deed;
-    let g = p.given;
-    let sent = g.sent;
-    carry_out(t, ground.count, req, found, d);
-    spend(v, sent, d);
+    carry_out(t, h.ground.count, req, h.found, p.deed);
+    spend(v, p.given.sent, p.deed);
 }
 
 // The answer to a request that comes to a fault: nothing is altered.
-pub fn answer_fault(
-    out: &mut [u8],
-    req: &[u8],
-    list: &[u16],
-    t: &[u8],
-    file: &[u8],
-    v: &[u8],
-    b: Blamed,
-) -> Said
-    requires { Passed req.now out.old × (list.now ≡ places_of req.now) × SoundTable t.now b.ground.count × SoundVectors v.now
-        × (b.ground.wanted ≡ wanted_of b.ground.dialect.terms req.now)
-        × (decide b.ground.dialect req.now t.now b.ground.count v.now ≡ faulted t.now v.now b.fault)
+pub fn answer_fault(out: &mut [u8], l: &Listed, t: &[u8], file: &[u8], v: &[u8], b: Blamed) -> Said
+    requires { Passed l.now.req.now out.old × SoundTable t.now b.ground.count × SoundVectors v.now
+        × (b.ground.wanted ≡ wanted_of b.ground.dialect.terms l.now.req.now)
+        × (decide b.ground.dialect l.now.req.now t.now b.ground.count v.now ≡ faulted t.now v.now b.fault)
         × (b.fault.place ≤ 16384) }
-    ensures { Says b.ground.dialect req.now t.now b.ground.count file.now v.now
+    ensures { Says b.ground.dialect l.now.req.now t.now b.ground.count file.now v.now
         out.old out.new result
-        × (t.now ≡ (decide b.ground.dialect req.now t.now b.ground.count v.now).table)
-        × (v.now ≡ (decide b.ground.dialect req.now t.now b.ground.count v.now).vectors) }
+        × (t.now ≡ (decide b.ground.dialect l.now.req.now t.now b.ground.count v.now).table)
+        × (v.now ≡ (decide b.ground.dialect l.now.req.now t.now b.ground.count v.now).vectors) }
 {
     let ground = b.ground;
-    let f = b.fault;
-    let place = f.place;
-    let given = giving::faulty(f);
-    let length = plain_answering::answer(out, req, list, t, file, v, Carried { ground, given });
+    let given = giving::faulty(b.fault);
+    let length = plain_answering::answer(out, l, t, file, v, Carried { ground, given });
     Said {
         length: length as u32,
-        place: place as u16,
+        place: b.fault.place as u16,
     }
 }
 
@@ -258,51 +242,34 @@ struct Written {
 }
 
 // The answer to a request that was read and asks for nothing unsupported: written from the table and the vectors as they came.
-fn answer_planned(
-    out: &mut [u8],
-    req: &[u8],
-    list: &[u16],
-    t: &[u8],
-    file: &[u8],
-    v: &[u8],
-    h: Held,
-) -> Written
-    requires { Passed req.now out.old × (list.now ≡ places_of req.now) × SoundTable t.now h.ground.count × SoundVectors v.now
-        × (h.ground.wanted ≡ wanted_of h.ground.dialect.terms req.now)
-        × (read_in h.ground.dialect req.now ≡ fine (seen_of req.now h.found)) }
+fn answer_planned(out: &mut [u8], l: &Listed, t: &[u8], file: &[u8], v: &[u8], h: Held) -> Written
+    requires { Passed l.now.req.now out.old × SoundTable t.now h.ground.count × SoundVectors v.now
+        × (h.ground.wanted ≡ wanted_of h.ground.dialect.terms l.now.req.now)
+        × (read_in h.ground.dialect l.now.req.now ≡ fine (seen_of l.now.req.now h.found)) }
     ensures { (result.length ≤ 36864)
-        × Planned h.ground.dialect req.now t.now h.ground.count v.now (seen_of req.now h.found) result.plan
-        × Wrote (answer_bytes h.ground.dialect.terms req.now t.now file.now v.now result.plan.given)
+        × Planned h.ground.dialect l.now.req.now t.now h.ground.count v.now (seen_of l.now.req.now h.found) result.plan
+        × Wrote (answer_bytes h.ground.dialect.terms l.now.req.now t.now file.now v.now result.plan.given)
         out.old out.new result.length }
 {
     let ground = h.ground;
-    let found = h.found;
-    let plan = plan_read(req, t, v, ground, found);
+    let plan = plan_read(l.req, t, v, ground, h.found);
     let given = plan.given;
-    let length = plain_answering::answer(out, req, list, t, file, v, Carried { ground, given });
+    let length = plain_answering::answer(out, l, t, file, v, Carried { ground, given });
     Written { plan, length }
 }
 
 // Then what is planned is done.
-fn answer_read(
-    out: &mut [u8],
-    req: &[u8],
-    list: &[u16],
-    t: &mut [u8],
-    file: &[u8],
-    v: &mut [u8],
-    h: Held,
-) -> Said
-    requires { Passed req.now out.old × (list.now ≡ places_of req.now) × SoundTable t.old h.ground.count × SoundVectors v.old
-        × (h.ground.wanted ≡ wanted_of h.ground.dialect.terms req.now) × (beyond_set h.ground.dialect.terms req.now ≡ false)
-        × (read_in h.ground.dialect req.now ≡ fine (seen_of req.now h.found)) }
-    ensures { Says h.ground.dialect req.now t.old h.ground.count file.now v.old
+fn answer_read(out: &mut [u8], l: &Listed, t: &mut [u8], file: &[u8], v: &mut [u8], h: Held) -> Said
+    requires { Passed l.now.req.now out.old × SoundTable t.old h.ground.count × SoundVectors v.old
+        × (h.ground.wanted ≡ wanted_of h.ground.dialect.terms l.now.req.now) × (beyond_set h.ground.dialect.terms l.now.req.now ≡ false)
+        × (read_in h.ground.dialect l.now.req.now ≡ fine (seen_of l.now.req.now h.found)) }
+    ensures { Says h.ground.dialect l.now.req.now t.old h.ground.count file.now v.old
         out.old out.new result
-        × (t.new ≡ (decide h.ground.dialect req.now t.old h.ground.count v.old).table)
-        × (v.new ≡ (decide h.ground.dialect req.now t.old h.ground.count v.old).vectors) }
+        × (t.new ≡ (decide h.ground.dialect l.now.req.now t.old h.ground.count v.old).table)
+        × (v.new ≡ (decide h.ground.dialect l.now.req.now t.old h.ground.count v.old).vectors) }
 {
-    let w = answer_planned(out, req, list, t, file, v, h);
-    carry(t, v, req, h, w.plan);
+    let w = answer_planned(out, l, t, file, v, h);
+    carry(t, v, l.req, h, w.plan);
     Said {
         length: w.length as u32,
         place: 0,
@@ -312,30 +279,28 @@ fn answer_read(
 // 02 [11]: "X5011 after the missing-AVP check, before all decisions"
 pub fn answer_fine(
     out: &mut [u8],
-    req: &[u8],
-    list: &[u16],
+    l: &Listed,
     t: &mut [u8],
     file: &[u8],
     v: &mut [u8],
     h: Held,
 ) -> Said
-    requires { Passed req.now out.old × (list.now ≡ places_of req.now) × SoundTable t.old h.ground.count × SoundVectors v.old
-        × (h.ground.wanted ≡ wanted_of h.ground.dialect.terms req.now)
-        × (read_in h.ground.dialect req.now ≡ fine (seen_of req.now h.found)) }
-    ensures { Says h.ground.dialect req.now t.old h.ground.count file.now v.old
+    requires { Passed l.now.req.now out.old × SoundTable t.old h.ground.count × SoundVectors v.old
+        × (h.ground.wanted ≡ wanted_of h.ground.dialect.terms l.now.req.now)
+        × (read_in h.ground.dialect l.now.req.now ≡ fine (seen_of l.now.req.now h.found)) }
+    ensures { Says h.ground.dialect l.now.req.now t.old h.ground.count file.now v.old
         out.old out.new result
-        × (t.new ≡ (decide h.ground.dialect req.now t.old h.ground.count v.old).table)
-        × (v.new ≡ (decide h.ground.dialect req.now t.old h.ground.count v.old).vectors) }
+        × (t.new ≡ (decide h.ground.dialect l.now.req.now t.old h.ground.count v.old).table)
+        × (v.new ≡ (decide h.ground.dialect l.now.req.now t.old h.ground.count v.old).vectors) }
 {
     let ground = h.ground;
-    let wanted = ground.wanted;
-    if wanted.beyond {
+    if ground.wanted.beyond {
         let fault = Verdict {
             result: Outcome::Experimental(experimental::FEATURE_UNSUPPORTED),
             place: 0,
             lacks: 0,
         };
-        return answer_fault(out, req, list, t, file, v, Blamed { ground, fault });
+        return answer_fault(out, l, t, file, v, Blamed { ground, fault });
     }
-    answer_read(out, req, list, t, file, v, h)
+    answer_read(out, l, t, file, v, h)
 }

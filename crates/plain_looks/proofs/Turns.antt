@@ -1,11 +1,15 @@
 -- From what the code has to what the definitions say: Session-Id, one AVP of the list, the loops over it.
+use Rattle.std.specs.Prelude.{Result, Ok, Err}
+use Rattle.std.specs.Result.{is_ok}
+use Rattle.reading.specs.declared.Verdict.{Verdict}
+use Rattle.requests.specs.Found.{Headed}
+use Rattle.octets.specs.Standard.{zero, ◌||◌, or-true, or-false, true≢false, eqb-true, eqb-false, ne_eqb}
 use Rattle.octets.specs.Standard.{ℕ, suc, ◌+◌, ◌-◌, ◌%◌, ◌≤◌, ◌<◌, add-one, ◌≡◌, refl, sym, ap, ◌∙◌, List, [], ◌∷◌, ◌++◌, none, Bool, true, false, not}
 use Rattle.octets.specs.Standard.{◌&&◌, and_assoc, and-false, arith, length, length-append, length-take, length-drop, get_or, drop, eqb, mid_of, put_mid}
 use Rattle.octets.specs.Run.{over, Wrote}
 use Rattle.octets.proofs.Writes.{Going, going_more, going_end, going_none}
 use Rattle.diameter.specs.Reader.{read_of, own_of}
 use Rattle.diameter.specs.declared.Avp.{Avp}
-use Rattle.diameter.specs.declared.Read.{Read}
 use Rattle.diameter.proofs.Reading.{own_flags, read_here}
 use Rattle.diameter.specs.Message.{body_of}
 use Rattle.envelope.specs.End.{proxy, proxies}
@@ -21,7 +25,6 @@ use Rattle.plain_reading.specs.Listed.{places_of}
 use Rattle.plain_reading.proofs.Turns.{part_cut, part_whole, seen_length}
 use Rattle.plain_looks.specs.Looks.{session_in, some_from, calls_at, asks_at, called_by, asks_by, proxy_by, proxies_from}
 use Rattle.plain_looks.proofs.Same.{session_same, wanted_same, proxies_same}
-use Rattle.diameter.specs.declared.Read.TheVariants as read
 
 -- Session-Id
 pub session_empty : (s list : List ℕ) → length list ≡ 0 → [] ≡ session_in (seen_of s list)
@@ -33,81 +36,95 @@ some_there : (list : List ℕ) → (length list ≡ 0 → ⊥) → 0 < length li
 some_there [] h = absurd (h refl)
 some_there (p ∷ list) h = omega arith
 
-module _ (s list : List ℕ) (there : length list ≡ 0 → ⊥) (place : ℕ) (ep : place ≡ get_or list 0 0) (r : Read) (e : r ≡ read_of place (drop place s)) where
-  pub session_cut : {p : ℕ} → r ≡ read.Fault p → [] ≡ session_in (seen_of s list)
+module _ (s list : List ℕ) (there : length list ≡ 0 → ⊥) (r : Result Avp ℕ)
+    (e : r ≡ read_of (get_or list 0 0) (drop (get_or list 0 0) s)) where
+  pub session_cut : {p : ℕ} → r ≡ Err p → [] ≡ session_in (seen_of s list)
   unfolding session_in
-  session_cut d = rw (part_cut s list 0 (some_there list there) place ep r e d)
+  session_cut d = rw (part_cut s list 0 (some_there list there) r e d)
 
-  module _ (a : Avp) (k : ℕ) (d : r ≡ read.Avp a) (ek : k ≡ kind_of (own_of s a)) where
+  module _ (a : Avp) (k : ℕ) (d : r ≡ Ok a) (ek : k ≡ kind_of (own_of s a)) where
     pub session_there : (b : List ℕ) → (eqb k session_id && eqb (a.flags % 32) 0) ≡ true → b ≡ own_of s a → b ≡ session_in (seen_of s list)
     unfolding session_in
     session_there b t eb =
-        eb ∙ rw (part_whole s list 0 (some_there list there) place ep r e a d, ← ek, own_flags s a (read_here s place r e a d), t)
+        eb ∙ rw (part_whole s list 0 (some_there list there) r e a d, ← ek, own_flags s a (read_here s (get_or list 0 0) r e a d), t)
 
     pub session_other : (eqb k session_id && eqb (a.flags % 32) 0) ≡ false → [] ≡ session_in (seen_of s list)
     unfolding session_in
-    session_other t = rw (part_whole s list 0 (some_there list there) place ep r e a d, ← ek, own_flags s a (read_here s place r e a d), t)
+    session_other t = rw (part_whole s list 0 (some_there list there) r e a d, ← ek, own_flags s a (read_here s (get_or list 0 0) r e a d), t)
 
 -- over the request's list it is the walk's
 pub session_as : (s list b : List ℕ) → list ≡ places_of s → b ≡ session_in (seen_of s list) → b ≡ session_of (body_of s)
 session_as s list b e f = f ∙ rw e (session_same s)
 
 -- one AVP of the list
-module _ (s list : List ℕ) (i : ℕ) (low : i < length list) (place : ℕ) (ep : place ≡ get_or list i 0) (r : Read) (e : r ≡ read_of place (drop place s)) where
-  module _ {p : ℕ} (d : r ≡ read.Fault p) where
+module _ (s list : List ℕ) (i : ℕ) (low : i < length list) (r : Result Avp ℕ)
+    (e : r ≡ read_of (get_or list i 0) (drop (get_or list i 0) s)) where
+  module _ {p : ℕ} (d : r ≡ Err p) where
     pub calls_cut : false ≡ calls_at (seen_of s list) i
     unfolding calls_at
-    calls_cut = rw (part_cut s list i low place ep r e d) (sym (and-false (not (eqb i 0))))
+    calls_cut = rw (part_cut s list i low r e d) (sym (and-false (not (eqb i 0))))
 
     pub asks_cut : (set : ℕ) → false ≡ asks_at set (seen_of s list) i
     unfolding asks_at
-    asks_cut set = rw (part_cut s list i low place ep r e d)
+    asks_cut set = rw (part_cut s list i low r e d)
 
     pub proxy_cut : (b : List ℕ) → Wrote (proxy_by (get_or (seen_of s list) i none)) b b 0
     unfolding over
-    proxy_cut b = rw (part_cut s list i low place ep r e d) (record { count = refl; bytes = refl })
+    proxy_cut b = rw (part_cut s list i low r e d) (record { count = refl; bytes = refl })
 
-  module _ (a : Avp) (d : r ≡ read.Avp a) where
+  module _ (a : Avp) (d : r ≡ Ok a) where
     module _ (k : ℕ) (ek : k ≡ kind_of (own_of s a)) (x : Bool) where
       pub calls_whole : x ≡ passes (own_of s a) → ((not (eqb i 0) && eqb k supported_features) && x) ≡ calls_at (seen_of s list) i
       unfolding calls_at calls_list
-      calls_whole ex = rw (part_whole s list i low place ep r e a d, ← ek, ← ex) (and_assoc (not (eqb i 0)) (eqb k supported_features) x)
+      calls_whole ex = rw (part_whole s list i low r e a d, ← ek, ← ex) (and_assoc (not (eqb i 0)) (eqb k supported_features) x)
 
       pub asks_whole : (set : ℕ) → x ≡ asks set (own_of s a) → (eqb k supported_features && x) ≡ asks_at set (seen_of s list) i
       unfolding asks_at asks_beyond
-      asks_whole set ex = rw (part_whole s list i low place ep r e a d, ← ek, ← ex)
+      asks_whole set ex = rw (part_whole s list i low r e a d, ← ek, ← ex)
 
     pub room_whole : {m : ℕ} → length (proxy_by (get_or (seen_of s list) i none)) ≤ m → length (proxy (own_of s a)) ≤ m
-    room_whole h = rw (part_whole s list i low place ep r e a d) at h
+    room_whole h = rw (part_whole s list i low r e a d) at h
 
     pub wrote_whole : {b xs : List ℕ} {n : ℕ} → Wrote (proxy (own_of s a)) b xs n → Wrote (proxy_by (get_or (seen_of s list) i none)) b xs n
-    wrote_whole w = rw (part_whole s list i low place ep r e a d) w
+    wrote_whole w = rw (part_whole s list i low r e a d) w
 
 -- a scan for one that passes a test
-pub some_start : (p : ℕ → Bool) (s list : List ℕ) → some_from p (length (seen_of s list)) 0 ≡ some_from p (length list - 0) 0
-some_start p s list = let n : length list - 0 ≡ length list = omega arith in rw (seen_length s list, n)
-
-module _ (p : ℕ → Bool) (n i : ℕ) (all : Bool) (left : all ≡ some_from p (n - i) i) where
-  pub some_none : n ≤ i → false ≡ all
+module _ (p : ℕ → Bool) where
+  some_yes : (n i j : ℕ) → i ≤ j → j < i + n → p j ≡ true → some_from p n i ≡ true
   unfolding some_from
-  some_none h = let m : n - i ≡ 0 = omega arith in rw (left, m)
+  some_yes zero i j a b e = absurd (omega arith)
+  some_yes (suc n) i j a b e = go (eqb i j) refl (λ c. some_yes n (suc i) j c (omega arith) e)
+    where
+      go : (x : Bool) → eqb i j ≡ x → (suc i ≤ j → some_from p n (suc i) ≡ true) → (p i || some_from p n (suc i)) ≡ true
+      go true f r = let m : i ≡ j = eqb-true i j f in rw (m, e)
+      go false f r = rw (r (omega (arith, eqb-false i j f)), or-true)
 
-  module _ (low : i < n) (x : Bool) (e : x ≡ p i) where
-    abbrev more : n - i ≡ suc (n - (i + 1))
-    more = omega arith
+  some_no : (n i : ℕ) → ((j : ℕ) → i ≤ j → j < i + n → p j ≡ true → ⊥) → some_from p n i ≡ false
+  unfolding some_from
+  some_no zero i h = refl
+  some_no (suc n) i h = rw (some_no n (suc i) (λ j a b. h j (omega arith) (omega arith)), or-false) (go (p i) refl)
+    where
+      go : (x : Bool) → p i ≡ x → p i ≡ false
+      go true e = absurd (h i (omega arith) (omega arith) e)
+      go false e = e
 
-    pub some_here : x ≡ true → true ≡ all
-    unfolding some_from
-    some_here t = rw (left, more, ← e, t)
+  -- a number shows as a place in a list: there the library's laws of ranges take it
+  pub some_is : (list : List ℕ) (n : ℕ) {x : Bool} → (x ≡ true → (i : ℕ) × (i < n) × (p i ≡ true))
+      → ((i : ℕ) → get_or list i 0 ≡ get_or list i 0 → i < n → p i ≡ true → x ≡ true) → x ≡ some_from p n 0
+  some_is list n {x} f g = go x f (λ i. g i refl)
+    where
+      go : (x : Bool) → (x ≡ true → (i : ℕ) × (i < n) × (p i ≡ true)) → ((i : ℕ) → i < n → p i ≡ true → x ≡ true) → x ≡ some_from p n 0
+      go true f g = let h = f refl in sym (some_yes n 0 h.0 (omega arith) (omega (arith, h.1)) h.2)
+      go false f g = sym (some_no n 0 (λ j a b e. true≢false (sym (g j (omega arith) e))))
 
-    pub some_more : x ≡ false → all ≡ some_from p (n - (i + 1)) (i + 1)
-    unfolding some_from
-    some_more f = left ∙ rw (more, ← e, f, add-one i)
+headed_ok : (r : Result (Unit {0}) Verdict) (n : ℕ) → Headed r n → is_ok r ≡ eqb n 0
+headed_ok (Ok u) n h = rw h
+headed_ok (Err v) n h = let z : n ≡ 0 → ⊥ = λ z. omega (arith, h.0) in rw (ne_eqb n 0 z)
 
-pub wanted_as : (req list : List ℕ) (terms : Terms) (d : Dialect) (n : ℕ) (x y : Bool) → list ≡ places_of req → d ≡ dialect_of terms req
-    → n ≡ header_fault d req → x ≡ called_by (seen_of req list) → y ≡ asks_by terms.features (seen_of req list)
-    → record { listed = eqb n 0 && x; beyond = y } ≡ wanted_of terms req
-wanted_as req list terms d n x y el ed en ex ey = rw (en, ed, ex, ey, el) (wanted_same terms req)
+pub wanted_as : (req list : List ℕ) (terms : Terms) (d : Dialect) (r : Result (Unit {0}) Verdict) (x y z : Bool) → list ≡ places_of req → d ≡ dialect_of terms req
+    → Headed r (header_fault d req) → z ≡ is_ok r → x ≡ called_by (seen_of req list) → y ≡ asks_by terms.features (seen_of req list)
+    → record { listed = z && x; beyond = y } ≡ wanted_of terms req
+wanted_as req list terms d r x y z el ed en ez ex ey = rw (ez, headed_ok r (header_fault d req) en, ed, ex, ey, el) (wanted_same terms req)
 
 -- every Proxy-Info
 pub proxies_start : (s list b : List ℕ) → list ≡ places_of s → Going b b 0 (proxies_from (seen_of s list) (length list - 0) 0) (proxies (body_of s))

@@ -1,61 +1,44 @@
 -- Each look-up as the scan that it is, and the scan of the visited networks.
-use Rattle.octets.specs.Standard.{ℕ, suc, ◌+◌, ◌-◌, ◌<◌, ◌≤◌, ◌/◌, ◌%◌, ◌^◌, Bool, true, false, ◌&&◌, not, ◌≡◌, refl, sym, ◌∙◌, ap, List, arith, add-one, eqb}
-use Rattle.octets.specs.Standard.{ltb}
-use Rattle.octets.specs.Standard.{length, get_or, take, drop}
+use Rattle.std.specs.Prelude.{Option, Some, None}
+use Rattle.std.specs.Option.{is_some, is_none}
+use Rattle.octets.specs.Standard.{ℕ, suc, ◌+◌, ◌-◌, ◌<◌, ◌≤◌, ◌/◌, ◌%◌, ◌^◌, Bool, true, false, ◌&&◌, not, ◌≡◌, refl, sym, ◌∙◌, List, arith, add-one, eqb}
+use Rattle.octets.specs.Standard.{lt-ltb, le-ltb}
+use Rattle.octets.specs.Standard.{get_or, take, drop}
 use Rattle.octets.specs.Name.{same}
-use Rattle.record.specs.Fields.{public_of, private_of, server_size, networks_of, roaming_of, bits_of, barred}
+use Rattle.record.specs.Fields.{networks_of, roaming_of, bits_of, barred}
 use Rattle.record.specs.Networks.{place_at, network_of}
 use Rattle.blocks.specs.Blocks.{block_of}
 use Rattle.table.specs.SoundTable.{SoundTable}
-use Rattle.table.specs.Named.{public_at, private_at}
 use Rattle.table.proofs.Sound.{sound_networks_lem, sound_place_lem}
-use Rattle.lookup.specs.Find.{first_from, is_at, public_is, find_public, private_is, find_private, server_here, serves_at, find_server, find_free}
+use Rattle.lookup.specs.Find.{first_from, is_at, find_free}
 use Rattle.lookup.specs.Find.{barred_alone}
 use Rattle.lookup.specs.Network.{network_is, seek, network_number, roams_in, may_roam}
-use Rattle.lookup.specs.declared.Found.{Found}
-use Rattle.lookup.proofs.First.{first_same}
-use Rattle.plain_lookup.specs.Look.{fits_here, fits_at}
-use Rattle.plain_lookup.specs.declared.Look.{Look}
-use Rattle.plain_lookup.specs.declared.Look.TheVariants.{Public, Private, Server}
+use Rattle.lookup.proofs.First.{first_next, first_nothing}
 
-module _ (b name : List ℕ) (look : Look) {n : List ℕ} {x : Bool} where
-  pub fits_public : look ≡ Public → n ≡ public_of b → x ≡ same n name → x ≡ fits_here look b name
-  fits_public e f g = rw (e, ← f) g
+-- The last turn of the scan.
+pub first_last : (p : ℕ → Bool) (count k : ℕ) {x : Bool} {whole : Option ℕ} → whole ≡ first_from p (count + 1 - k) k → k ≤ count → count ≤ k → x ≡ p k → x ≡ false
+    → None ≡ whole
+first_last p count k left h l e f = first_nothing p count (k + 1) (first_next p count k left h e f) (omega arith)
 
-  pub fits_private : look ≡ Private → n ≡ private_of b → x ≡ same n name → x ≡ fits_here look b name
-  fits_private e f g = rw (e, ← f) g
+-- An answer that is there.
+pub some_at : (o : Option ℕ) → is_some o ≡ is_at o
+some_at (Some k) = refl
+some_at None = refl
 
-  pub fits_server : look ≡ Server → n ≡ private_of b → x ≡ same n name → (ltb 0 (server_size b) && x) ≡ fits_here look b name
-  unfolding server_here
-  fits_server e f g = rw (e, g, f)
+pub none_at : (o : Option ℕ) → is_none o ≡ not (is_at o)
+none_at (Some k) = refl
+none_at None = refl
 
-pub fits_at_lem : (look : Look) (t name : List ℕ) (k : ℕ) {b : List ℕ} {x : Bool} → b ≡ block_of t k → x ≡ fits_here look b name → x ≡ fits_at look t name k
-unfolding fits_at
-fits_at_lem look t name k e f = rw (← e) f
-
-module _ (t : List ℕ) (count : ℕ) (name : List ℕ) {f : Found} where
-  pub public_first : f ≡ first_from (fits_at Public t name) count 1 → f ≡ find_public t count name
-  unfolding find_public public_is public_at fits_at
-  public_first e = e ∙ first_same (fits_at Public t name) (public_is t name) count 1 (λ j a b. refl)
-
-  pub private_first : {y : Bool} → f ≡ first_from (fits_at Private t name) count 1 → y ≡ is_at f → y ≡ is_at (find_private t count name)
-  unfolding find_private private_is private_at fits_at
-  private_first e g = g ∙ ap is_at (e ∙ first_same (fits_at Private t name) (private_is t name) count 1 (λ j a b. refl))
-
-  pub server_first : f ≡ first_from (fits_at Server t name) count 1 → f ≡ find_server t count name
-  unfolding find_server serves_at fits_at
-  server_first e = e ∙ first_same (fits_at Server t name) (serves_at t name) count 1 (λ j a b. refl)
-
-pub alone : (t : List ℕ) (count : ℕ) (b : List ℕ) {x y : Bool} {f : Found} → x ≡ barred (bits_of b) → f ≡ find_free t count b → y ≡ is_at f
-    → (x && not y) ≡ barred_alone t count b
+pub alone : (t : List ℕ) (count : ℕ) (b : List ℕ) {x y : Bool} {f : Option ℕ} → x ≡ barred (bits_of b) → f ≡ find_free t count b → y ≡ is_none f
+    → (x && y) ≡ barred_alone t count b
 unfolding barred_alone
-alone t count b e f g = rw (e, g, f)
+alone t count b {x} {y} {f} e g h = rw (e, h, none_at f, g)
 
 -- A network's name in its place.
 module _ (t : List ℕ) (count : ℕ) (sound : SoundTable t count) (h : List ℕ) (eh : h ≡ block_of t 0) (i at size : ℕ) (low : i < networks_of (block_of t 0))
     (place : at ≡ place_at i) (is : size ≡ get_or h at 0) where
-  pub name_room : i < 8 → length h ≡ 512 → at + 1 + size ≤ length h
-  name_room l n = let m : get_or h (place_at i) 0 ≤ 31 = sound_place_lem t count sound eh i (rw eh low) in omega (arith, rw place at is)
+  pub name_room : i < 8 → at + 1 + size ≤ 512
+  name_room l = let m : get_or h (place_at i) 0 ≤ 31 = sound_place_lem t count sound eh i (rw eh low) in omega (arith, rw place at is)
 
   pub name_lent : take (at + 1 + size - (at + 1)) (drop (at + 1) h) ≡ network_of (block_of t 0) i
   unfolding network_of
@@ -89,8 +72,13 @@ module _ (b name : List ℕ) (n i : ℕ) {whole : ℕ} {s : List ℕ} {x : Bool}
       let q : network_is b name i ≡ false = sym is_here ∙ f in
       rw (left, m, q, add-one i)
 
-pub roams : (t b name : List ℕ) {h : List ℕ} {networks n roaming : ℕ} → h ≡ block_of t 0 → networks ≡ networks_of h
-    → n ≡ network_number (block_of t 0) (networks_of (block_of t 0)) name → roaming ≡ roaming_of b
-    → (ltb n networks && eqb (roaming / 2 ^ n % 2) 1) ≡ may_roam (block_of t 0) b name
-unfolding may_roam roams_in
-roams t b name eh en e er = rw (er, en, eh, e)
+-- A record's bit for a network that has the name; none has it.
+module _ (t b name : List ℕ) where
+  pub roams : (n : ℕ) {roaming : ℕ} → n ≡ network_number (block_of t 0) (networks_of (block_of t 0)) name → n < networks_of (block_of t 0)
+      → roaming ≡ roaming_of b → eqb (roaming / 2 ^ n % 2) 1 ≡ may_roam (block_of t 0) b name
+  unfolding may_roam roams_in
+  roams n e h f = rw (← e, lt-ltb _ _ h, f)
+
+  pub roams_nowhere : network_number (block_of t 0) (networks_of (block_of t 0)) name ≡ networks_of (block_of t 0) → false ≡ may_roam (block_of t 0) b name
+  unfolding may_roam roams_in
+  roams_nowhere e = let h : networks_of (block_of t 0) ≤ networks_of (block_of t 0) = omega arith in rw (e, le-ltb _ _ h)

@@ -1,6 +1,6 @@
 #![tactic(auto)]
 // "Decisions": UAR, LIR and 02 [1]'s authentication request over a sound table. Every question is asked, and the choice has document 01's order.
-ghost use Rattle.std.specs.Prelude.{◌≡◌, length};
+ghost use Rattle.std.specs.Prelude.{◌≡◌};
 ghost use Rattle.blocks.specs.Blocks.{block_of};
 ghost use Rattle.table.specs.SoundTable.{SoundTable};
 ghost use Rattle.vectors.specs.VectorFile.{SoundVectors};
@@ -15,9 +15,7 @@ use blocks::block;
 use choices::challenge::Claimed;
 use choices::choice::{Asked, Choice, Sought};
 use choices::plan::Plan;
-use choices::{Given, challenge, choice, giving};
-use lookup::Found;
-use octets::name;
+use choices::{Given, challenge, giving};
 use plain_table::bytes;
 use reading::Outcome;
 use record::fields;
@@ -25,16 +23,17 @@ use record::subscriber::Record;
 use vectors::choice::Sent;
 
 // "the first server name in the subscription by table order ..; none, capabilities": those of block k.
-fn served_by(f: Found, res: Outcome, other: Outcome, k: u32) -> Given
+fn served_by(f: Option<u32>, res: Outcome, other: Outcome, k: u32) -> Given
     ensures { result ≡ served_by f res other k }
 {
     match f {
-        Found::At(j) => giving::serving(res, j),
-        Found::Nothing => giving::capable(other, k),
+        Some(j) => giving::serving(res, j),
+        None => giving::capable(other, k),
     }
 }
 
 // What a choice on the record in block k carries; user is its subscription.
+#[tactic(auto, unfolding(questions::specs::Carried::carried))]
 fn carry(t: &[u8], count: usize, user: &[u8], k: u32, choice: Choice) -> Given
     requires { SoundTable t.now count }
     ensures { result ≡ carried t.now count user.now k choice }
@@ -53,8 +52,9 @@ fn carry(t: &[u8], count: usize, user: &[u8], k: u32, choice: Choice) -> Given
 }
 
 // "UAR.": what is asked of the record in block b.
-fn ask_record(t: &[u8], count: usize, b: &[u8], user: &[u8], network: &[u8]) -> Asked
-    requires { SoundTable t.now count × (length b.now ≡ 512) }
+#[tactic(auto, unfolding(questions::specs::Authorization::asked_at))]
+fn ask_record(t: &[u8], count: usize, b: &[u8; 512], user: &[u8], network: &[u8]) -> Asked
+    requires { SoundTable t.now count }
     ensures { result
         ≡ asked_at (block_of t.now 0) b.now (is_at (find_private t.now count user.now))
         (barred_alone t.now count b.now) user.now network.now }
@@ -69,13 +69,14 @@ fn ask_record(t: &[u8], count: usize, b: &[u8], user: &[u8], network: &[u8]) -> 
 }
 
 // "Either identity unknown": the same of the record with the public identity, if there is one.
-fn ask(t: &[u8], count: usize, user: &[u8], network: &[u8], f: Found) -> Asked
+#[tactic(auto, using(lookup::proofs::Among::among_room), unfolding(questions::specs::Authorization::asked_of))]
+fn ask(t: &[u8], count: usize, user: &[u8], network: &[u8], f: Option<u32>) -> Asked
     requires { SoundTable t.now count × Among count f }
     ensures { result ≡ asked_of t.now count user.now network.now f }
 {
     match f {
-        Found::At(k) => ask_record(t, count, block(t, k as usize), user, network),
-        Found::Nothing => Asked {
+        Some(k) => ask_record(t, count, block(t, k as usize), user, network),
+        None => Asked {
             known: false,
             together: false,
             barred: false,
@@ -85,6 +86,7 @@ fn ask(t: &[u8], count: usize, user: &[u8], network: &[u8], f: Found) -> Asked
     }
 }
 
+#[tactic(auto, using(lookup::proofs::Among::public_among), unfolding(questions::specs::Authorization::authorize, questions::specs::Authorization::authorize_found))]
 pub fn authorize(
     t: &[u8],
     count: usize,
@@ -103,13 +105,13 @@ pub fn authorize(
         count,
         user,
         lookup::block_found(f),
-        choice::authorization(asked, kind),
+        asked.authorization(kind),
     )
 }
 
 // "LIR.": what is asked of the record in block b.
-fn seek_record(b: &[u8]) -> Sought
-    requires { length b.now ≡ 512 }
+#[tactic(auto, unfolding(questions::specs::Location::sought_at))]
+fn seek_record(b: &[u8; 512]) -> Sought
     ensures { result ≡ sought_at b.now }
 {
     Sought {
@@ -120,13 +122,14 @@ fn seek_record(b: &[u8]) -> Sought
 }
 
 // "Unknown": the same of the record with the public identity, if there is one.
-fn seek(t: &[u8], count: usize, f: Found) -> Sought
+#[tactic(auto, using(lookup::proofs::Among::among_room), unfolding(questions::specs::Location::sought_of))]
+fn seek(t: &[u8], count: usize, f: Option<u32>) -> Sought
     requires { SoundTable t.now count × Among count f }
     ensures { result ≡ sought_of t.now f }
 {
     match f {
-        Found::At(k) => seek_record(block(t, k as usize)),
-        Found::Nothing => Sought {
+        Some(k) => seek_record(block(t, k as usize)),
+        None => Sought {
             known: false,
             present: false,
             services: false,
@@ -134,6 +137,7 @@ fn seek(t: &[u8], count: usize, f: Found) -> Sought
     }
 }
 
+#[tactic(auto, using(lookup::proofs::Among::public_among), unfolding(questions::specs::Location::locate, questions::specs::Location::locate_found, table::specs::Named::private_at))]
 pub fn locate(t: &[u8], count: usize, public: &[u8]) -> Given
     requires { SoundTable t.now count }
     ensures { result ≡ locate t.now count public.now }
@@ -141,12 +145,20 @@ pub fn locate(t: &[u8], count: usize, public: &[u8]) -> Given
     let f = plain_lookup::find_public(t, count, public);
     let k = lookup::block_found(f);
     let owner = fields::private(block(t, k as usize));
-    carry(t, count, owner, k, choice::location(seek(t, count, f)))
+    carry(t, count, owner, k, seek(t, count, f).location())
 }
 
 // 02 [1]: "identities unknown, not matching, scheme other than `Digest-AKAv1-MD5`", of the record in block b; and whether there is a vector to send.
-fn claim_record(t: &[u8], count: usize, b: &[u8], user: &[u8], scheme: &[u8], some: bool) -> Claimed
-    requires { SoundTable t.now count × (length b.now ≡ 512) }
+#[tactic(auto, unfolding(questions::specs::Authentication::claimed_at))]
+fn claim_record(
+    t: &[u8],
+    count: usize,
+    b: &[u8; 512],
+    user: &[u8],
+    scheme: &[u8],
+    some: bool,
+) -> Claimed
+    requires { SoundTable t.now count }
     ensures { result
         ≡ claimed_at b.now (is_at (find_private t.now count user.now)) user.now scheme.now some }
 {
@@ -159,13 +171,14 @@ fn claim_record(t: &[u8], count: usize, b: &[u8], user: &[u8], scheme: &[u8], so
 }
 
 // The same of the record with the public identity, if there is one.
-fn claim(t: &[u8], count: usize, user: &[u8], scheme: &[u8], some: bool, f: Found) -> Claimed
+#[tactic(auto, using(lookup::proofs::Among::among_room), unfolding(questions::specs::Authentication::claimed_of))]
+fn claim(t: &[u8], count: usize, user: &[u8], scheme: &[u8], some: bool, f: Option<u32>) -> Claimed
     requires { SoundTable t.now count × Among count f }
     ensures { result ≡ claimed_of t.now count user.now scheme.now some f }
 {
     match f {
-        Found::At(k) => claim_record(t, count, block(t, k as usize), user, scheme, some),
-        Found::Nothing => Claimed {
+        Some(k) => claim_record(t, count, block(t, k as usize), user, scheme, some),
+        None => Claimed {
             known: false,
             together: false,
             served: false,
@@ -175,13 +188,15 @@ fn claim(t: &[u8], count: usize, user: &[u8], scheme: &[u8], some: bool, f: Foun
 }
 
 // "that name's first unused vectors in file order, as many as asked or as remain, at most 16"
+#[tactic(auto, unfolding(questions::specs::Authentication::to_send))]
 fn to_send(v: &[u8], user: &[u8], number: u32) -> Sent
     requires { SoundVectors v.now }
     ensures { result ≡ to_send v.now user.now number }
 {
-    plain_vectors::first_unused(v, user, name::smaller(number as usize, 16))
+    plain_vectors::first_unused(v, user, (number as usize).min(16))
 }
 
+#[tactic(auto, using(lookup::proofs::Among::public_among), unfolding(questions::specs::Authentication::authenticate, questions::specs::Authentication::authenticate_found))]
 pub fn authenticate(
     t: &[u8],
     count: usize,
@@ -197,5 +212,5 @@ pub fn authenticate(
     let f = plain_lookup::find_public(t, count, public);
     let sent = to_send(v, user, number);
     let claimed = claim(t, count, user, scheme, 0 < sent.count, f);
-    challenge::challenge_of(challenge::claim_of(claimed), lookup::block_found(f), sent)
+    challenge::challenge_of(claimed.finding(), lookup::block_found(f), sent)
 }

@@ -1,4 +1,5 @@
 -- The list of places: at each stands the walk's AVP; there are at most 2,046.
+use Rattle.std.specs.Prelude.{Ok}
 use Rattle.octets.specs.Standard.{ℕ, zero, suc, ◌+◌, ◌-◌, ◌*◌, ◌≤◌, ◌<◌, ◌≡◌, refl, List, [], ◌∷◌, map, none, some, Bool, true, false, arith}
 use Rattle.octets.specs.Standard.{length, drop, ltb, ltb-true, ltb-false}
 use Rattle.diameter.specs.Avp.{padded, sound}
@@ -12,7 +13,6 @@ use Rattle.diameter.proofs.Walks.{walk_faulty}
 use Rattle.octets.specs.Standard.{length-drop}
 use Rattle.reading.specs.Rules.{Seen}
 use Rattle.plain_reading.specs.Listed.{places_in, places_of, most}
-use Rattle.diameter.specs.declared.Read.TheVariants as read
 
 -- the AVPs of a walk, none for the one whose length is faulty
 unfoldable pub listed : Walk → Seen
@@ -32,7 +32,7 @@ standing s at = go (ltb at (length s)) refl (sound (drop at s)) refl
   where
     go : (x : Bool) → ltb at (length s) ≡ x → (y : Bool) → sound (drop at s) ≡ y → Standing s at
     go true e true f =
-        whole (avp_here at (drop at s)) (read_says s at (read.Avp (avp_here at (drop at s))) (rw f) (avp_here at (drop at s)) refl) (ltb-true at (length s) e)
+        whole (avp_here at (drop at s)) (read_says s at (Ok (avp_here at (drop at s))) (rw f) (avp_here at (drop at s)) refl) (ltb-true at (length s) e)
     go true e false f =
         let h : at < length s = ltb-true at (length s) e in
         cut h (walk_faulty (drop at s) f (rw length-drop (omega arith))) (rw f)

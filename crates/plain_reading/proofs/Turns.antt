@@ -1,32 +1,28 @@
 -- From what the code has to what the definitions say: the list, one AVP of it, the loops over it.
+use Rattle.std.specs.Prelude.{Some, None, Result, Ok, Err}
 use Rattle.octets.specs.Standard.{ℕ, zero, suc, ◌+◌, ◌-◌, ◌*◌, ◌/◌, ◌%◌, ◌≤◌, ◌<◌, add-one, ◌≡◌, refl, sym, ap, ◌∙◌, List, [], ◌∷◌, ◌++◌, map, none, some}
 use Rattle.octets.specs.Standard.{append_assoc, append-nil, Bool, true, false, cond, not, ◌&&◌, ◌||◌, arith, length, get_or, take, drop, set, take-length, eqb}
-use Rattle.octets.specs.Standard.{leb, eq-eqb, ne_eqb, lt-ltb, le-ltb}
+use Rattle.octets.specs.Standard.{eqb-true, eqb-false, or-true, true≢false, drop-cons, drop_of_length-le, eq-eqb, ne_eqb, lt-ltb, le-ltb}
 use lib.Seq.{take-suc-set}
 use Rattle.octets.specs.Number.{be32_at}
-use Rattle.diameter.specs.Avp.{vendor_of, data_of, value_of}
+use Rattle.diameter.specs.Avp.{vendor_of}
 use Rattle.diameter.specs.AvpAt.{part_at}
 use Rattle.diameter.specs.Reader.{read_of, own_of, Here}
 use Rattle.diameter.specs.Walk.{walk}
 use Rattle.diameter.specs.declared.Avp.{Avp}
-use Rattle.diameter.specs.declared.Read.{Read}
-use Rattle.diameter.proofs.Parts.{counted, data_length}
-use Rattle.diameter.proofs.Reading.{own_flags, own_avp_head, read_says, read_none, read_fault_says, walk_past, none_past}
-use Rattle.reading.specs.declared.Content.{Content}
-use Rattle.reading.specs.declared.Content.TheVariants.{Number, Sized, Members}
+use Rattle.diameter.proofs.Reading.{own_flags, read_says, read_none, read_fault_says, walk_past, none_past}
 use Rattle.reading.specs.declared.Dialect.{Dialect}
-use Rattle.reading.specs.declared.group.Group.{Group}
 use Rattle.reading.specs.declared.Kind.{Kind}
 use Rattle.reading.specs.declared.Use.{Use}
-use Rattle.reading.specs.Groups.{members_of, gathers, group_fault}
+use Rattle.reading.specs.declared.Verdict.{Verdict}
 use Rattle.reading.specs.Kinds.{kinds, known, kind_from, kind_by, kind_of, row_of, use_in, is_unknown, session_id}
 use Rattle.reading.specs.Places.{seen_of}
 use Rattle.reading.specs.Rules.{Seen}
-use Rattle.reading.specs.Verdicts.{fault_of, lack_of}
+use Rattle.reading.specs.Verdicts.{lack_of}
 use Rattle.reading.proofs.Judging.{seen_at}
-use Rattle.requests.specs.Found.{judged_of}
+use Rattle.requests.specs.Found.{Headed, Missed}
+use Rattle.requests.specs.Judged.{Judged, bad, fine}
 use Rattle.requests.specs.Request.{header_fault, missing, complete}
-use Rattle.requests.specs.declared.Walked.{Walked}
 use Rattle.plain_reading.specs.declared.Broken.{Broken}
 use Rattle.plain_reading.specs.declared.Letter.{Letter}
 use Rattle.plain_reading.specs.declared.Letter.TheVariants.{A, B, C, D, F, G, H, Newer}
@@ -35,8 +31,6 @@ use Rattle.plain_reading.specs.Listed.{places_in, places_of, most}
 use Rattle.plain_reading.specs.Passes.{first_by, pass_of, earlier, letters, pick_from, picked}
 use Rattle.plain_reading.specs.Plain.{blamed, last_of, taken_of, each_below, taken, after_passes, plain_body, plain_read}
 use Rattle.plain_reading.proofs.Listing.{places_avp, next_far}
-use Rattle.diameter.specs.declared.Read.TheVariants as read
-use Rattle.requests.specs.declared.Walked.TheVariants as walked
 
 -- The list: what stands in it, and what is left of the message.
 pub list_start : (s places : List ℕ) → take 0 places ++ places_in 20 (walk (drop 20 s)) ≡ places_of s
@@ -48,16 +42,16 @@ module _ (s places : List ℕ) (n at : ℕ) (left : take n places ++ places_in a
   unfolding places_in
   list_end h = sym (append-nil (take n places)) ∙ rw (walk_past s at h) at left
 
-  module _ (m : ℕ) (far : 20 + 8 * n ≤ at) (h : at < length s) (short : length s ≤ 16384) (same : length places ≡ m) (sized : m ≡ most) (r : Read)
+  module _ (far : 20 + 8 * n ≤ at) (h : at < length s) (short : length s ≤ 16384) (sized : length places ≡ most) (r : Result Avp ℕ)
       (e : r ≡ read_of at (drop at s)) where
     room : n < length places
     room = omega arith
 
-    pub list_cut : {p : ℕ} → r ≡ read.Fault p → take (n + 1) (set places n at) ≡ places_of s
+    pub list_cut : {p : ℕ} → r ≡ Err p → take (n + 1) (set places n at) ≡ places_of s
     unfolding places_in
     list_cut d = rw (add-one, take-suc-set places n at room) (rw (read_fault_says s at r e d h) at left)
 
-    module _ (a : Avp) (d : r ≡ read.Avp a) where
+    module _ (a : Avp) (d : r ≡ Ok a) where
       pub list_more : take (n + 1) (set places n at) ++ places_in a.next (walk (drop a.next s)) ≡ places_of s
       list_more =
           rw (add-one, take-suc-set places n at room, append_assoc (take n places) (at ∷ []) (places_in a.next (walk (drop a.next s))))
@@ -71,67 +65,54 @@ kind_nothing : kind_of [] ≡ 0
 unfolding kind_by kind_from known vendor_of be32_at
 kind_nothing = refl
 
-module _ (s list : List ℕ) (i : ℕ) (low : i < length list) (place : ℕ) (ep : place ≡ get_or list i 0) (r : Read) (e : r ≡ read_of place (drop place s)) where
-  pub part_cut : {p : ℕ} → r ≡ read.Fault p → get_or (seen_of s list) i none ≡ none
-  part_cut d = rw (seen_at s list i low, ← ep) (read_none s place r e d)
+module _ (s list : List ℕ) (i : ℕ) (low : i < length list) (r : Result Avp ℕ) (e : r ≡ read_of (get_or list i 0) (drop (get_or list i 0) s)) where
+  pub part_cut : {p : ℕ} → r ≡ Err p → get_or (seen_of s list) i none ≡ none
+  part_cut d = rw (seen_at s list i low) (read_none s (get_or list i 0) r e d)
 
-  pub part_whole : (a : Avp) → r ≡ read.Avp a → get_or (seen_of s list) i none ≡ some (own_of s a)
-  part_whole a d = rw (seen_at s list i low, ← ep) (read_says s place r e a d).part
+  pub part_whole : (a : Avp) → r ≡ Ok a → get_or (seen_of s list) i none ≡ some (own_of s a)
+  part_whole a d = rw (seen_at s list i low) (read_says s (get_or list i 0) r e a d).part
 
-  pub kind_cut : {p : ℕ} → r ≡ read.Fault p → 0 ≡ kind_at (seen_of s list) i
+  pub kind_cut : {p : ℕ} → r ≡ Err p → 0 ≡ kind_at (seen_of s list) i
   unfolding kind_at
   kind_cut d = rw (part_cut d) (sym kind_nothing)
 
-  pub kind_whole : (a : Avp) (k : ℕ) → r ≡ read.Avp a → k ≡ kind_of (own_of s a) → k ≡ kind_at (seen_of s list) i
+  pub kind_whole : (a : Avp) (k : ℕ) → r ≡ Ok a → k ≡ kind_of (own_of s a) → k ≡ kind_at (seen_of s list) i
   unfolding kind_at
   kind_whole a k d ek = rw (part_whole a d) ek
 
   module _ (d : Dialect) (l : Letter) (x : Bool) where
-    pub broken_cut : {p : ℕ} → r ≡ read.Fault p → x ≡ is_a l → x ≡ breaks d (seen_of s list) l i
+    pub broken_cut : {p : ℕ} → r ≡ Err p → x ≡ is_a l → x ≡ breaks d (seen_of s list) l i
     unfolding breaks
     broken_cut f ex = rw (part_cut f) ex
 
-    pub broken_whole : (a : Avp) → r ≡ read.Avp a → x ≡ breaks_whole d (seen_of s list) i (own_of s a) l → x ≡ breaks d (seen_of s list) l i
+    pub broken_whole : (a : Avp) → r ≡ Ok a → x ≡ breaks_whole d (seen_of s list) i (own_of s a) l → x ≡ breaks d (seen_of s list) l i
     unfolding breaks
     broken_whole a f ex = rw (part_whole a f) ex
 
 -- Whether a kind came.
-pub came_start : (avps : Seen) (k : ℕ) → false ≡ came avps k 0
-unfolding came
-came_start avps k = refl
+module _ (avps : Seen) (k : ℕ) where
+  came_yes : (n i : ℕ) → i < n → kind_at avps i ≡ k → came avps k n ≡ true
+  unfolding came
+  came_yes zero i h e = absurd (omega arith)
+  came_yes (suc n) i h e = go (eqb i n) refl (λ l. came_yes n i l e)
+    where
+      go : (x : Bool) → eqb i n ≡ x → (i < n → came avps k n ≡ true) → (came avps k n || eqb (kind_at avps n) k) ≡ true
+      go true f r = let m : i ≡ n = eqb-true i n f in rw (← m, eq-eqb (kind_at avps i) k e, or-true)
+      go false f r = rw (r (omega (arith, eqb-false i n f)))
 
-pub came_turn : (avps : Seen) (k i m : ℕ) {x : Bool} → x ≡ came avps k i → m ≡ kind_at avps i → (x || eqb m k) ≡ came avps k (i + 1)
-unfolding came
-came_turn avps k i m e f = rw (add-one, e, f)
+  came_no : (n : ℕ) → ((i : ℕ) → i < n → kind_at avps i ≡ k → ⊥) → came avps k n ≡ false
+  unfolding came
+  came_no zero h = refl
+  came_no (suc n) h = rw (came_no n (λ i l. h i (omega arith)), ne_eqb (kind_at avps n) k (h n (omega arith)))
 
-pub came_end : (avps : Seen) (k i n : ℕ) {x : Bool} → x ≡ came avps k i → i ≤ n → n ≤ i → x ≡ came avps k n
-came_end avps k i n e h l = let m : i ≡ n = omega arith in cc
-
-module _ (u : Use) (x : Bool) (e : x ≡ is_sole u) (z : Bool) where
-  pub often_sole : (y : Bool) → x ≡ true → y ≡ z → y ≡ (is_sole u && z)
-  often_sole y t f = rw (← e, t) f
-
-  pub often_many : x ≡ false → false ≡ (is_sole u && z)
-  often_many f = rw (← e, f)
-
--- What an AVP holds.
-module _ (s : List ℕ) (a : Avp) (h : Here s a) (c : Content) where
-  pub length_number : (least most : ℕ) → c ≡ Number least most → not (eqb a.len (a.head + 4)) ≡ other_length c (own_of s a)
-  length_number least most e = rw (e, own_avp_head s a h, counted s a h)
-
-  module _ (d : Dialect) where
-    pub bad_number : (least most v : ℕ) → c ≡ Number least most → v ≡ value_of (own_of s a) → not (leb least v && leb v most) ≡ bad_content d c (own_of s a)
-    bad_number least most v e f = rw (e, f)
-
-    pub bad_sized : (least most : ℕ) → c ≡ Sized least most
-        → not (leb least (a.len - a.head) && leb (a.len - a.head) most) ≡ bad_content d c (own_of s a)
-    bad_sized least most e = rw (e, data_length s a h)
-
-    pub bad_group : (g : Group) (x : Bool) → c ≡ Members g → x ≡ gathers (members_of d g) (walk (data_of (own_of s a))) → not x ≡ bad_content d c (own_of s a)
-    bad_group g x e f = rw (e, f)
-
-    pub several_group : (g : Group) (n : ℕ) → c ≡ Members g → n ≡ group_fault d g (walk (data_of (own_of s a))) → eqb n 5009 ≡ several_in d c (own_of s a)
-    several_group g n e f = rw (e, f)
+  -- a number shows as a place in a list: there the library's laws of ranges take it
+  pub came_is : (list : List ℕ) (n : ℕ) {x : Bool} → (x ≡ true → (i : ℕ) × (i < n) × (kind_at avps i ≡ k))
+      → ((i : ℕ) → get_or list i 0 ≡ get_or list i 0 → i < n → kind_at avps i ≡ k → x ≡ true) → x ≡ came avps k n
+  came_is list n {x} f g = go x f (λ i. g i refl)
+    where
+      go : (x : Bool) → (x ≡ true → (i : ℕ) × (i < n) × (kind_at avps i ≡ k)) → ((i : ℕ) → i < n → kind_at avps i ≡ k → x ≡ true) → x ≡ came avps k n
+      go true f g = let h = f refl in sym (came_yes n h.0 h.1 h.2)
+      go false f g = sym (came_no n (λ i l e. true≢false (sym (g i l e))))
 
 -- The rules, each by its letter.
 module _ (d : Dialect) (s list : List ℕ) (i : ℕ) (a : Avp) (h : Here s a) (k : ℕ) (ek : k ≡ kind_of (own_of s a)) (row : Kind) (er : row ≡ row_of k) (u : Use)
@@ -207,17 +188,20 @@ module _ (x y : Broken) where
   unfolding earlier
   earlier_first h = rw (le-ltb y.at x.at h)
 
-pub earlier_by : (x : Broken) {y z r : Broken} → r ≡ earlier x y → y ≡ z → r ≡ earlier x z
-earlier_by x e f = e ∙ rw f
+-- A further rule.
+pub picked_start : (d : Dialect) (avps : Seen) {x : Broken} → x ≡ pass_of d avps A → picked d avps ≡ pick_from d avps (length avps) 0 x letters
+unfolding picked
+picked_start d avps e = rw e
 
-pub picked_all : (d : Dialect) (avps : Seen) {a b c f g h n r : Broken} → a ≡ pass_of d avps A → b ≡ earlier a (pass_of d avps B)
-    → c ≡ earlier b (pass_of d avps C) → f ≡ earlier c (pass_of d avps D) → g ≡ earlier f (pass_of d avps F) → h ≡ earlier g (pass_of d avps G)
-    → n ≡ earlier h (pass_of d avps H) → r ≡ earlier n (pass_of d avps Newer) → r ≡ picked d avps
-unfolding picked pick_from letters
-picked_all d avps ea eb ec ef eg eh en er = rw (er, en, eh, eg, ef, ec, eb, ea)
+module _ (d : Dialect) (avps : Seen) (i : ℕ) (x : Broken) (left : picked d avps ≡ pick_from d avps (length avps) 0 x (drop i letters)) where
+  pub picked_turn : (l : Letter) {y z : Broken} → i < length letters → l ≡ get_or letters i A → y ≡ pass_of d avps l → z ≡ earlier x y
+      → picked d avps ≡ pick_from d avps (length avps) 0 z (drop (i + 1) letters)
+  unfolding pick_from
+  picked_turn l h e f g = left ∙ rw (drop-cons letters i A h, ← e, add-one i, g, f)
 
-pub blame_by : (l : Letter) (p : ℕ) (w : Walked) (m : Letter) → l ≡ m → w ≡ walked.Fault (blamed m p) → w ≡ walked.Fault (blamed l p)
-blame_by l p w m e f = f ∙ rw e
+  pub picked_end : length letters ≤ i → x ≡ picked d avps
+  unfolding pick_from
+  picked_end h = sym (left ∙ rw (drop_of_length-le letters h))
 
 -- The place of a kind's last AVP, looked for from the last one down.
 module _ (s list : List ℕ) (k i : ℕ) (whole : last_of (seen_of s list) k (length list) ≡ last_of (seen_of s list) k i) where
@@ -275,27 +259,27 @@ unfolding each_below
 fill_none d s list places n = refl
 
 -- The whole.
-module _ (d : Dialect) (s list : List ℕ) (x : Broken) (ex : x ≡ picked d (seen_of s list)) (w : Walked) where
-  pub body_fault : (held : List ℕ) (l : Letter) (p : ℕ) → x.at < length list → l ≡ x.letter → p ≡ get_or list x.at 0 → w ≡ walked.Fault (blamed l p)
-      → judged_of s held w ≡ plain_body d s list
-  unfolding plain_body after_passes judged_of
-  body_fault held l p h el ep ew = rw (ew, el, ep, ← ex, seen_length s list, lt-ltb x.at (length list) h)
+module _ (d : Dialect) (s list : List ℕ) (x : Broken) (ex : x ≡ picked d (seen_of s list)) where
+  pub body_fault : {v : Verdict} → x.at < length list → v ≡ blamed x.letter (get_or list x.at 0) → bad v ≡ plain_body d s list
+  unfolding plain_body after_passes
+  body_fault h ew = rw (ew, ← ex, seen_length s list, lt-ltb x.at (length list) h)
 
-  module _ (places : List ℕ) (k : ℕ) (h : length list ≤ x.at) (filled : seen_of s places ≡ taken d (seen_of s list) (length list))
-      (ek : k ≡ missing d (seen_of s places)) where
-    pub body_lacks : (k ≡ 0 → ⊥) → w ≡ walked.Fault (lack_of k) → judged_of s places w ≡ plain_body d s list
-    unfolding plain_body after_passes judged_of complete
-    body_lacks z ew = rw (ew, ← ex, seen_length s list, le-ltb x.at (length list) h, ← filled, ← ek, ne_eqb k 0 z)
+  module _ (places : List ℕ) (h : length list ≤ x.at) (filled : seen_of s places ≡ taken d (seen_of s list) (length list)) where
+    pub body_lacks : {v : Verdict} (k : ℕ) → Missed (Some k) (missing d (seen_of s places)) → v ≡ lack_of k → bad v ≡ plain_body d s list
+    unfolding plain_body after_passes complete
+    body_lacks k m ew =
+        let z : missing d (seen_of s places) ≡ 0 → ⊥ = λ z. omega (arith, m.0) in
+        rw (ew, ← ex, seen_length s list, le-ltb x.at (length list) h, ← filled, m.1, ne_eqb _ _ z)
 
-    pub body_read : k ≡ 0 → w ≡ walked.Read → judged_of s places w ≡ plain_body d s list
-    unfolding plain_body after_passes judged_of complete
-    body_read z ew = rw (ew, ← ex, seen_length s list, le-ltb x.at (length list) h, ← filled, ← ek, eq-eqb k 0 z)
+    pub body_read : Missed None (missing d (seen_of s places)) → fine (seen_of s places) ≡ plain_body d s list
+    unfolding plain_body after_passes complete
+    body_read z = rw (← ex, seen_length s list, le-ltb x.at (length list) h, ← filled, z)
 
-module _ (d : Dialect) (s list held : List ℕ) (n : ℕ) (en : n ≡ header_fault d s) (w : Walked) where
-  pub read_header : (n ≡ 0 → ⊥) → w ≡ walked.Fault (fault_of n) → judged_of s held w ≡ plain_read d s list
-  unfolding plain_read judged_of
-  read_header z ew = rw (ew, ← en, ne_eqb n 0 z)
-
-  pub read_rest : n ≡ 0 → judged_of s held w ≡ plain_body d s list → judged_of s held w ≡ plain_read d s list
+module _ (d : Dialect) (s list : List ℕ) where
+  pub read_header : (v : Verdict) → Headed (Err v) (header_fault d s) → bad v ≡ plain_read d s list
   unfolding plain_read
-  read_rest z e = e ∙ rw (← en, eq-eqb n 0 z)
+  read_header v h = let z : header_fault d s ≡ 0 → ⊥ = λ z. omega (arith, h.0) in rw (h.1, ne_eqb _ _ z)
+
+  pub read_rest : {j : Judged} → Headed (Ok tt) (header_fault d s) → j ≡ plain_body d s list → j ≡ plain_read d s list
+  unfolding plain_read
+  read_rest h e = e ∙ rw h

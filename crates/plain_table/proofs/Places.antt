@@ -1,5 +1,5 @@
 -- The places of visited networks, and a header's tests together.
-use Rattle.octets.specs.Standard.{ℕ, ◌+◌, ◌-◌, ◌<◌, ◌≤◌, Bool, ◌&&◌, ◌||◌, not, and_assoc, ◌≡◌, ◌∙◌, ap, List, arith, length, get_or, take}
+use Rattle.octets.specs.Standard.{ℕ, ◌+◌, ◌<◌, ◌≤◌, Bool, ◌&&◌, not, and_assoc, ◌≡◌, ◌∙◌, ap, List, arith, length, get_or, take}
 use Rattle.octets.specs.Standard.{drop, length-take-le, length-drop, get_or-take, get_or-drop, eqb, leb, lt-ltb, le-ltb}
 use Rattle.octets.specs.All.{all_below}
 use Rattle.octets.specs.Name.{same, alike_at}
@@ -11,14 +11,8 @@ use Rattle.record.specs.Networks.{place_at, used_place, sound_place, same_byte, 
 use Rattle.record.specs.declared.header.Header.{Header}
 
 module _ (b : List ℕ) where
-  pub place_lent : (at i : ℕ) → at ≡ place_at i → take (at + 32 - at) (drop at b) ≡ take 32 (drop (place_at i) b)
-  place_lent at i e = let n : at + 32 - at ≡ 32 = omega arith in rw (n, e)
-
   place_length : (i : ℕ) → length b ≡ 512 → i < 8 → length (take 32 (drop (place_at i) b)) ≡ 32
   place_length i l h = length-take-le 32 (drop (place_at i) b) (omega (arith, length-drop (place_at i) b))
-
-  pub place_size : (at i : ℕ) → at ≡ place_at i → length b ≡ 512 → i < 8 → length (take (at + 32 - at) (drop at b)) ≡ 32
-  place_size at i e l h = rw (place_lent at i e) (place_length i l h)
 
   pub place_unused : (n i at : ℕ) {x : Bool} → n ≤ i → at ≡ place_at i → x ≡ zero_between b at (at + 32) → x ≡ sound_place b n i
   unfolding sound_place
@@ -43,10 +37,6 @@ module _ (b : List ℕ) where
         get_or-drop (place_at i) b k 0,
         get_or-drop (place_at j) b k 0,
       ))))
-
-  pub place_new : (n j : ℕ) {y : Bool} → y ≡ all_below (other_place b j) j → (leb n j || y) ≡ new_place b n j
-  unfolding new_place
-  place_new n j e = rw e
 
 -- The tests of a header.
 module _ (b : List ℕ) (h : Header) (c t n r w v : Bool) (s : ℕ) where

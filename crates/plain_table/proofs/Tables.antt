@@ -1,7 +1,7 @@
 -- The tests of a record in its place, and the answer for a whole table.
-use Rattle.octets.specs.Standard.{ℕ, ◌+◌, ◌-◌, ◌*◌, ◌<◌, ◌≤◌, Bool, true, false, ◌&&◌, ◌||◌, not, ◌≡◌, refl, sym, ◌∙◌, List, arith, add-one, length, leb}
+use Rattle.std.specs.Prelude.{Err}
+use Rattle.octets.specs.Standard.{ℕ, suc, ◌+◌, ◌-◌, ◌*◌, ◌<◌, ◌≤◌, Bool, true, false, ◌&&◌, ◌||◌, not, ◌≡◌, sym, ◌∙◌, List, arith, length, leb}
 use Rattle.octets.specs.Standard.{eqb, le-leb, lt-leb, leb-true, eqb-true}
-use Rattle.octets.specs.All.{all_below}
 use Rattle.octets.specs.Name.{order_of}
 use Rattle.octets.proofs.All.{and_left, and_right}
 use Rattle.record.specs.Fields.{public_of}
@@ -10,24 +10,8 @@ use Rattle.record.specs.Sets.{same_set, agreeing}
 use Rattle.record.specs.declared.header.Header.{Header}
 use Rattle.record.proofs.Tests.{HeaderTests, header_says}
 use Rattle.blocks.specs.Blocks.{block_of, first_bad}
-use Rattle.blocks.specs.declared.Checked.TheVariants.{Bad}
-use Rattle.table.specs.Check.{is_less, rises_at, agrees_with, agrees_at, sound_at, check_records, check_table}
+use Rattle.table.specs.Check.{is_less, rises_at, agrees_with, sound_at, check_records, check_table}
 use Rattle.table.specs.Named.{public_at}
-
--- A test that was negated.
-pub refused : {x : Bool} → not x ≡ true → x ≡ false
-refused {x} e = go x e
-  where
-    go : (y : Bool) → not y ≡ true → y ≡ false
-    go true f = sym f
-    go false f = refl
-
-pub passed : {x : Bool} → not x ≡ false → x ≡ true
-passed {x} e = go x e
-  where
-    go : (y : Bool) → not y ≡ false → y ≡ true
-    go true f = refl
-    go false f = sym f
 
 module _ (t : List ℕ) (k : ℕ) where
   pub rises_first : k ≤ 1 → true ≡ rises_at t k
@@ -39,14 +23,10 @@ module _ (t : List ℕ) (k : ℕ) where
   unfolding rises_at public_at
   rises_later h ea eb ep eq e = rw (lt-leb _ _ h, ← ea, ← eb, ← ep, ← eq) e
 
-  pub pair_agrees : (i : ℕ) {a b : List ℕ} {x y : Bool} → a ≡ block_of t (i + 1) → b ≡ block_of t k → x ≡ same_set a b → y ≡ agreeing a b
-      → (not x || y) ≡ agrees_with t k i
+  pub pair_agrees : (i : ℕ) {a b : List ℕ} {x y : Bool} → 1 ≤ i → a ≡ block_of t i → b ≡ block_of t k → x ≡ same_set a b → y ≡ agreeing a b
+      → (not x || y) ≡ agrees_with t k (i - 1)
   unfolding agrees_with
-  pair_agrees i ea eb e f = rw (← add-one i, ← ea, ← eb, e, f)
-
-  pub pairs_all : (i : ℕ) {good : Bool} → good ≡ all_below (agrees_with t k) i → i ≤ k - 1 → k - 1 ≤ i → good ≡ agrees_at t k
-  unfolding agrees_at
-  pairs_all i e h l = let n : i ≡ k - 1 = omega arith in rw (← n) e
+  pair_agrees i h ea eb e f = let n : suc (i - 1) ≡ i = omega arith in rw (n, ← ea, ← eb, e, f)
 
 module _ (t : List ℕ) where
   -- block 0: a sound header, and the length that it says
@@ -61,7 +41,7 @@ module _ (t : List ℕ) where
   header_long l eb eh ex = rw (le-leb _ _ l, ← eb, ← eh, ex)
 
   module _ (file : ℕ) {x : Bool} (is : x ≡ first_sound) where
-    pub table_refused : x ≡ false → Bad 0 ≡ check_table t file
+    pub table_refused : x ≡ false → Err 0 ≡ check_table t file
     unfolding check_table
     table_refused f = let s : first_sound ≡ false = cc in rw s
 

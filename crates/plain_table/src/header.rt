@@ -37,8 +37,7 @@ fn numbers(h: Header) -> bool
 }
 
 // "Bytes not named are zero, and so are unused places in a field": "16-79 host; 80-143 realm; 144-399 eight places"; 02 [5]: 408-411 issue number.
-fn rest(b: &[u8], h: Header) -> bool
-    requires { length b.now ≡ 512 }
+fn rest(b: &[u8; 512], h: Header) -> bool
     ensures { result ≡ sound_header_rest b.now h }
 {
     run::zero_between(b, 2, 4)
@@ -49,17 +48,16 @@ fn rest(b: &[u8], h: Header) -> bool
 }
 
 // "144-399 eight places of 32": place i.
-fn place(b: &[u8], i: usize) -> &[u8]
-    requires { (length b.now ≡ 512) × (i < 8) }
-    ensures { (result.now ≡ take 32 (drop (place_at i) b.now)) × (length result.now ≡ 32) }
+fn place(b: &[u8; 512], i: usize) -> &[u8; 32]
+    requires { i < 8 }
+    ensures { result.now ≡ take 32 (drop (place_at i) b.now) }
 {
-    let at = 144 + 32 * i;
-    &b[at..at + 32]
+    b[144 + 32 * i..].first_chunk().unwrap()
 }
 
 // "a length 1 to 31, then the visited network's name", and zeros; a place past the last network is all zeros.
-fn place_sound(b: &[u8], n: usize, i: usize) -> bool
-    requires { (length b.now ≡ 512) × (i < 8) }
+fn place_sound(b: &[u8; 512], n: usize, i: usize) -> bool
+    requires { i < 8 }
     ensures { result ≡ sound_place b.now n i }
 {
     let at = 144 + 32 * i;
@@ -70,52 +68,37 @@ fn place_sound(b: &[u8], n: usize, i: usize) -> bool
     (1 <= size) & (size <= 31) & run::zero_between(b, at + 1 + size, at + 32)
 }
 
-fn places_sound(b: &[u8], n: usize) -> bool
-    requires { length b.now ≡ 512 }
+fn places_sound(b: &[u8; 512], n: usize) -> bool
     ensures { result ≡ all_below (sound_place b.now n) 8 }
 {
-    let mut good = true;
-    for i in 0..8 {
-        good = good & place_sound(b, n, i);
-    }
-    good
+    (0..8).all(|i| place_sound(b, n, i))
 }
 
 // "no two alike": places i and j differ.
-fn other(b: &[u8], j: usize, i: usize) -> bool
-    requires { (length b.now ≡ 512) × (i < 8) × (j < 8) }
+fn other(b: &[u8; 512], j: usize, i: usize) -> bool
+    requires { (i < 8) × (j < 8) }
     ensures { result ≡ other_place b.now j i }
 {
     !bytes::same(place(b, i), place(b, j))
 }
 
-// Place j is like none before it.
-fn new_place(b: &[u8], j: usize) -> bool
-    requires { (length b.now ≡ 512) × (j < 8) }
-    ensures { result ≡ all_below (other_place b.now j) j }
+// Place j, if a network is in it, is like none before it.
+fn new_place(b: &[u8; 512], n: usize, j: usize) -> bool
+    requires { j < 8 }
+    ensures { result ≡ new_place b.now n j }
 {
-    let mut good = true;
-    for i in 0..j {
-        good = good & other(b, j, i);
-    }
-    good
+    n <= j || (0..j).all(|i| other(b, j, i))
 }
 
-// The same of each of the n networks.
-fn no_two_alike(b: &[u8], n: usize) -> bool
-    requires { length b.now ≡ 512 }
+// The same of each place.
+fn no_two_alike(b: &[u8; 512], n: usize) -> bool
     ensures { result ≡ all_below (new_place b.now n) 8 }
 {
-    let mut good = true;
-    for j in 0..8 {
-        good = good & ((n <= j) | new_place(b, j));
-    }
-    good
+    (0..8).all(|j| new_place(b, n, j))
 }
 
 // Whether a block is a sound header.
-pub fn sound(b: &[u8]) -> bool
-    requires { length b.now ≡ 512 }
+pub fn sound(b: &[u8; 512]) -> bool
     ensures { result ≡ sound_header b.now }
 {
     let h = Header::read(b);

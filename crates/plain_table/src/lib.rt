@@ -4,7 +4,7 @@ pub mod bytes;
 mod header;
 pub mod subscriber;
 
-ghost use Rattle.std.specs.Prelude.{◌≡◌, ◌+◌, ◌*◌, ◌≤◌, ◌&&◌, length, ◌==◌, nat_le};
+ghost use Rattle.std.specs.Prelude.{◌≡◌, ◌+◌, ◌-◌, ◌*◌, ◌<◌, ◌≤◌, ◌&&◌, length, ◌==◌, nat_le};
 ghost use Rattle.record.specs.HeaderBlock.{header_of, sound_header};
 ghost use Rattle.blocks.specs.Blocks.{block_of};
 ghost use Rattle.table.specs.Check.{rises_at, agrees_with, agrees_at, sound_at, check_table};
@@ -18,18 +18,15 @@ fn rises(t: &[u8], k: usize) -> bool
     requires { 512 * k + 512 ≤ length t.now }
     ensures { result ≡ rises_at t.now k }
 {
-    if k <= 1 {
-        return true;
-    }
-    bytes::less(fields::public(block(t, k - 1)), fields::public(block(t, k)))
+    k <= 1 || bytes::less(fields::public(block(t, k - 1)), fields::public(block(t, k)))
 }
 
-// 02 [6]: a table is "sound only if all records of a set agree .., the later block being blamed": block k with record i + 1.
+// 02 [6]: a table is "sound only if all records of a set agree .., the later block being blamed": block k with record i.
 fn agrees_with(t: &[u8], k: usize, i: usize) -> bool
-    requires { (512 * k + 512 ≤ length t.now) × (i + 2 ≤ k) }
-    ensures { result ≡ agrees_with t.now k i }
+    requires { (512 * k + 512 ≤ length t.now) × (1 ≤ i) × (i < k) }
+    ensures { result ≡ agrees_with t.now k (i - 1) }
 {
-    let a = block(t, i + 1);
+    let a = block(t, i);
     let b = block(t, k);
     !subscriber::same_set(a, b) | subscriber::agree(a, b)
 }
@@ -39,11 +36,7 @@ fn agrees(t: &[u8], k: usize) -> bool
     requires { (1 ≤ k) × (512 * k + 512 ≤ length t.now) }
     ensures { result ≡ agrees_at t.now k }
 {
-    let mut good = true;
-    for i in 0..k - 1 {
-        good = good & agrees_with(t, k, i);
-    }
-    good
+    (1..k).all(|i| agrees_with(t, k, i))
 }
 
 // Whether block k is a sound record in its place.
@@ -71,16 +64,14 @@ pub fn check(t: &[u8], file: usize) -> Checked
     ensures { result ≡ check_table t.now file }
 {
     if !header_sound(t) {
-        return Checked::Bad(0);
+        return Err(0);
     }
     let h = Header::read(block(t, 0));
     let count = h.count as usize;
-    let mut k = 1;
-    while k <= count {
+    for k in 1..=count {
         if !record_sound(t, h, file, k) {
-            return Checked::Bad(k as u32);
+            return Err(k as u32);
         }
-        k += 1;
     }
-    Checked::Sound(h.count)
+    Ok(h.count)
 }

@@ -64,8 +64,7 @@ fn profile(r: Record, file: usize) -> bool
 }
 
 // "Bytes not named are zero, and so are unused places in a field": "16-143, 144-271, 272-367 these names; 368-383, 384-399 capabilities, 32 bits each"
-fn rest(b: &[u8], r: Record) -> bool
-    requires { length b.now ≡ 512 }
+fn rest(b: &[u8; 512], r: Record) -> bool
     ensures { result ≡ sound_rest b.now r }
 {
     run::zero_between(b, 2, 4)
@@ -78,8 +77,8 @@ fn rest(b: &[u8], r: Record) -> bool
 }
 
 // Whether a block is sound as record k, under a header and beside a profile file of such a length.
-pub fn sound(b: &[u8], k: u32, h: Header, file: usize) -> bool
-    requires { (length b.now ≡ 512) × (h.networks ≤ 8) }
+pub fn sound(b: &[u8; 512], k: u32, h: Header, file: usize) -> bool
+    requires { h.networks ≤ 8 }
     ensures { result ≡ sound_record b.now k h file }
 {
     let r = Record::read(b);
@@ -94,8 +93,7 @@ pub fn sound(b: &[u8], k: u32, h: Header, file: usize) -> bool
 }
 
 // 02 [6]: "A set is the records of one subscription with the same nonzero number"
-pub fn same_set(a: &[u8], b: &[u8]) -> bool
-    requires { (length a.now ≡ 512) × (length b.now ≡ 512) }
+pub fn same_set(a: &[u8; 512], b: &[u8; 512]) -> bool
     ensures { result ≡ same_set a.now b.now }
 {
     let set = number::be16(a, Record::SET_AT);
@@ -105,8 +103,7 @@ pub fn same_set(a: &[u8], b: &[u8]) -> bool
 }
 
 // "all records of a set agree in state, pending and server name"
-pub fn agree(a: &[u8], b: &[u8]) -> bool
-    requires { (length a.now ≡ 512) × (length b.now ≡ 512) }
+pub fn agree(a: &[u8; 512], b: &[u8; 512]) -> bool
     ensures { result ≡ agreeing a.now b.now }
 {
     (a[Record::STATE_AT] == b[Record::STATE_AT])

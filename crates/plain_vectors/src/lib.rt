@@ -27,8 +27,7 @@ fn limits(v: Vector) -> bool
 }
 
 // "4-131 that name; .. 164-179 XRES; .. 196-211 .. integrity key; the rest zero"
-fn rest(b: &[u8], v: Vector) -> bool
-    requires { length b.now ≡ 512 }
+fn rest(b: &[u8; 512], v: Vector) -> bool
     ensures { result ≡ sound_rest b.now v }
 {
     run::zero_between(b, 4 + (v.private as usize), 132)
@@ -37,8 +36,7 @@ fn rest(b: &[u8], v: Vector) -> bool
 }
 
 // "with the table's check"
-fn sound(b: &[u8]) -> bool
-    requires { length b.now ≡ 512 }
+fn sound(b: &[u8; 512]) -> bool
     ensures { result ≡ sound_vector b.now }
 {
     let v = Vector::read(b);
@@ -50,27 +48,20 @@ fn piece_sound(v: &[u8], k: usize) -> bool
     requires { k ≤ 4096 }
     ensures { result ≡ sound_piece v.now k }
 {
-    if 4096 <= k {
-        return false;
-    }
-    if v.len() < BLOCK * k + BLOCK {
-        return false;
-    }
-    sound(block(v, k))
+    k < 4096 && BLOCK * k + BLOCK <= v.len() && sound(block(v, k))
 }
 
 // The number of blocks, or the first piece that is bad; the last piece may be cut.
 pub fn check(v: &[u8]) -> Checked
     ensures { result ≡ check_vectors v.now }
 {
-    let mut k = 0;
-    while BLOCK * k < v.len() {
+    let pieces = v.len().div_ceil(BLOCK);
+    for k in 0..pieces {
         if !piece_sound(v, k) {
-            return Checked::Bad(k as u32);
+            return Err(k as u32);
         }
-        k += 1;
     }
-    Checked::Sound(k as u32)
+    Ok(pieces as u32)
 }
 
 // Whether vector k is unused, and this name's.
@@ -101,13 +92,11 @@ fn with_next(v: &[u8], name: &[u8], most: usize, s: Sent, k: usize) -> Sent
     requires { (512 * k + 512 ≤ length v.now) × (k ≤ 4096) × (most ≤ 16) }
     ensures { result ≡ with_next v.now name.now most s k }
 {
-    if most <= s.count {
-        return s;
+    if s.count < most && unused(v, name, k) {
+        also(s, k as u32)
+    } else {
+        s
     }
-    if unused(v, name, k) {
-        return also(s, k as u32);
-    }
-    s
 }
 
 // "that name's first unused vectors in file order, as many as asked or as remain, at most 16"
@@ -115,9 +104,8 @@ pub fn first_unused(v: &[u8], name: &[u8], most: usize) -> Sent
     requires { SoundVectors v.now × (most ≤ 16) }
     ensures { result ≡ packed (unused_of v.now name.now most) }
 {
-    let count = v.len() / BLOCK;
     let mut sent = choice::none();
-    for k in 0..count {
+    for k in 0..v.len() / BLOCK {
         sent = with_next(v, name, most, sent, k);
     }
     sent

@@ -1,12 +1,10 @@
 -- "UAR.": the questions, and what their answers come to (choices/specs/Choices has the paragraph, row by row).
-use Rattle.std.specs.Prelude.{ℕ, List, Bool, false, ltb}
+use Rattle.std.specs.Prelude.{ℕ, List, Bool, false, ltb, Option, Some, None}
 use Rattle.octets.specs.Name.{same}
 use Rattle.record.specs.Fields.{private_of, state_of}
 use Rattle.blocks.specs.Blocks.{block_of}
 use Rattle.lookup.specs.Find.{is_at, find_public, find_private, barred_alone}
 use Rattle.lookup.specs.Network.{may_roam}
-use Rattle.lookup.specs.declared.Found.{Found}
-use Rattle.lookup.specs.declared.Found.TheVariants.{At, Nothing}
 use Rattle.choices.specs.Choices.{authorization}
 use Rattle.choices.specs.declared.Given.{Given}
 use Rattle.choices.specs.declared.choice.Asked.{Asked}
@@ -25,12 +23,12 @@ asked_at h b known barred user network =
     }
 
 -- of the record that was found; where none was, "either identity" is unknown
-unfoldable pub asked_of : List ℕ → ℕ → List ℕ → List ℕ → Found → Asked
-asked_of t count user network (At k) = asked_at (block_of t 0) (block_of t k) (is_at (find_private t count user)) (barred_alone t count (block_of t k)) user network
-asked_of t count user network Nothing =
+unfoldable pub asked_of : List ℕ → ℕ → List ℕ → List ℕ → Option ℕ → Asked
+asked_of t count user network (Some k) = asked_at (block_of t 0) (block_of t k) (is_at (find_private t count user)) (barred_alone t count (block_of t k)) user network
+asked_of t count user network None =
     record { known = false; together = false; barred = false; roams = false; present = false }
 
-unfoldable pub authorize_found : List ℕ → ℕ → List ℕ → List ℕ → ℕ → Found → Given
+unfoldable pub authorize_found : List ℕ → ℕ → List ℕ → List ℕ → ℕ → Option ℕ → Given
 authorize_found t count user network kind f = carried t count user (block_found f) (authorization (asked_of t count user network f) kind)
 
 unfoldable pub authorize : List ℕ → ℕ → List ℕ → List ℕ → List ℕ → ℕ → Given

@@ -1,5 +1,5 @@
 // "UAR."
-ghost use Rattle.std.specs.Prelude.{◌≡◌, length};
+ghost use Rattle.std.specs.Prelude.{◌≡◌};
 ghost use Rattle.blocks.specs.Blocks.{block_of};
 ghost use Rattle.table.specs.SoundTable.{SoundTable};
 ghost use Rattle.lookup.specs.Find.{barred_alone};
@@ -7,16 +7,23 @@ ghost use Rattle.lookup.specs.Among.{Among};
 ghost use Rattle.questions.specs.Authorization.{asked_at, asked_of, authorize};
 
 use crate::carrying;
+use choices::Given;
 use choices::choice::Asked;
-use choices::{Given, choice};
-use lookup::Found;
 use octets::name;
 use record::fields;
 use record::subscriber::Record;
 
 // The questions, put to a record's block b, where it is known whether the private identity is.
-fn ask_record(t: &[u8], count: usize, b: &[u8], known: bool, user: &[u8], network: &[u8]) -> Asked
-    requires { SoundTable t.now count × (length b.now ≡ 512) }
+#[tactic(auto, unfolding(crate::specs::Authorization::asked_at))]
+fn ask_record(
+    t: &[u8],
+    count: usize,
+    b: &[u8; 512],
+    known: bool,
+    user: &[u8],
+    network: &[u8],
+) -> Asked
+    requires { SoundTable t.now count }
     ensures { result
         ≡ asked_at (block_of t.now 0) b.now known (barred_alone t.now count b.now) user.now
         network.now }
@@ -31,12 +38,13 @@ fn ask_record(t: &[u8], count: usize, b: &[u8], known: bool, user: &[u8], networ
 }
 
 // The questions, put to the record with the public identity, if there is one.
-fn ask(t: &[u8], count: usize, user: &[u8], network: &[u8], f: Found) -> Asked
+#[tactic(auto, using(lookup::proofs::Among::among_room), unfolding(crate::specs::Authorization::asked_of))]
+fn ask(t: &[u8], count: usize, user: &[u8], network: &[u8], f: Option<u32>) -> Asked
     requires { SoundTable t.now count × Among count f }
     ensures { result ≡ asked_of t.now count user.now network.now f }
 {
     match f {
-        Found::At(k) => ask_record(
+        Some(k) => ask_record(
             t,
             count,
             blocks::block(t, k as usize),
@@ -44,7 +52,7 @@ fn ask(t: &[u8], count: usize, user: &[u8], network: &[u8], f: Found) -> Asked
             user,
             network,
         ),
-        Found::Nothing => Asked {
+        None => Asked {
             known: false,
             together: false,
             barred: false,
@@ -54,6 +62,7 @@ fn ask(t: &[u8], count: usize, user: &[u8], network: &[u8], f: Found) -> Asked
     }
 }
 
+#[tactic(auto, using(lookup::proofs::Among::public_among), unfolding(crate::specs::Authorization::authorize, crate::specs::Authorization::authorize_found))]
 pub fn authorize(
     t: &[u8],
     count: usize,
@@ -72,6 +81,6 @@ pub fn authorize(
         count,
         user,
         lookup::block_found(f),
-        choice::authorization(asked, kind),
+        asked.authorization(kind),
     )
 }

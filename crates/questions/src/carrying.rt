@@ -6,20 +6,20 @@ ghost use Rattle.questions.specs.Carried.{served_by, carried};
 
 use choices::choice::Choice;
 use choices::{Given, giving};
-use lookup::Found;
 use reading::Outcome;
 
 // The server name of a record that was found, or else the capabilities of block k.
-fn served_by(f: Found, res: Outcome, other: Outcome, k: u32) -> Given
+fn served_by(f: Option<u32>, res: Outcome, other: Outcome, k: u32) -> Given
     ensures { result ≡ served_by f res other k }
 {
     match f {
-        Found::At(j) => giving::serving(res, j),
-        Found::Nothing => giving::capable(other, k),
+        Some(j) => giving::serving(res, j),
+        None => giving::capable(other, k),
     }
 }
 
 // What a choice on block k carries; user is its subscription.
+#[tactic(auto, unfolding(crate::specs::Carried::carried))]
 pub fn carry(t: &[u8], count: usize, user: &[u8], k: u32, choice: Choice) -> Given
     requires { SoundTable t.now count }
     ensures { result ≡ carried t.now count user.now k choice }

@@ -1,6 +1,7 @@
 -- Reading a name: the turns of the loop; what was written is read, and what is read is what is written.
 use Rattle.octets.specs.Standard.{ℕ, suc, ◌+◌, ◌*◌, ◌<◌, ◌≤◌, Bool, true, false, ◌&&◌, not, cond, true≢false, ◌≡◌, refl, sym, ◌∙◌, ap, arith, add-one}
-use Rattle.octets.specs.Standard.{eqb, leb, ltb, eqb-true, eq-eqb, le-leb, leb-true, ltb-true, ltb-false}
+use Rattle.std.specs.Prelude.{Some, None}
+use Rattle.octets.specs.Standard.{ne_eqb, lt-leb, eqb, leb, ltb, eqb-true, eq-eqb, le-leb, leb-true, ltb-true, ltb-false}
 use Rattle.octets.specs.Standard.{List, [], ◌∷◌, ◌++◌, append_assoc, append-nil, length, drop, get_or, length-append, drop-cons, drop_of_length-le}
 use Rattle.octets.specs.Standard.{get_or-eq_default, drop_at, Option, none, some}
 use Rattle.octets.proofs.All.{and_left, and_right}
@@ -98,7 +99,7 @@ module _ (s : List ℕ) (i : ℕ) (h : i < length s) where
       go false e = rw (opens, e, t)
 
   module _ (n : ℕ) (b : Begun s i n) where
-    pub begun_closed : {x : Bool} → x ≡ closes_at s i → x ≡ true → record { size = i + 1; length = n } ≡ as_name (name_from false (drop 1 s))
+    pub begun_closed : {x : Bool} → x ≡ closes_at s i → x ≡ true → Some (record { size = i + 1; length = n }) ≡ as_name (name_from false (drop 1 s))
     begun_closed e t =
         let o : name_from false (drop 1 s) ≡ some (b.done ++ []) = b.left ∙ rw (closed (sym e ∙ t)) in
         let p : i + 1 ≡ length (doubled b.done) + 2 = omega (arith, b.place) in
@@ -125,20 +126,20 @@ module _ (s : List ℕ) (i : ℕ) (h : i < length s) where
             ∙ rw e;
       }
 
-      pub begun_not : y ≡ false → record { size = 0; length = 0 } ≡ as_name (name_from false (drop 1 s))
+      pub begun_not : y ≡ false → None ≡ as_name (name_from false (drop 1 s))
       begun_not t = let o : name_from false (drop 1 s) ≡ none = b.left ∙ rw (unlisted (sym ex ∙ fx) (sym ey ∙ t)) in rw o
 
-pub begun_open : (s : List ℕ) (i n : ℕ) → Begun s i n → length s ≤ i → record { size = 0; length = 0 } ≡ as_name (name_from false (drop 1 s))
+pub begun_open : (s : List ℕ) (i n : ℕ) → Begun s i n → length s ≤ i → None ≡ as_name (name_from false (drop 1 s))
 unfolding name_from
 begun_open s i n b h = let o : name_from false (drop 1 s) ≡ none = b.left ∙ rw (drop_of_length-le s {i = i} h) in rw o
 
 -- The answer.
 module _ (s : List ℕ) (most : ℕ) where
-  pub name_empty : length s ≡ 0 → record { size = 0; length = 0 } ≡ as_name (name_in most s)
+  pub name_empty : length s ≡ 0 → None ≡ as_name (name_in most s)
   unfolding name_in
   name_empty h = go s h
     where
-      go : (s : List ℕ) → length s ≡ 0 → record { size = 0; length = 0 } ≡ as_name (name_in most s)
+      go : (s : List ℕ) → length s ≡ 0 → None ≡ as_name (name_in most s)
       go [] h = refl
       go (x ∷ s) h = absurd (omega arith)
 
@@ -150,33 +151,50 @@ module _ (s : List ℕ) (most : ℕ) where
       go [] h = absurd (h refl)
       go (x ∷ s) h = refl
 
-  module _ (n : Name) (h : length s ≡ 0 → ⊥) (e : n ≡ as_name (name_from false (drop 1 s))) where
-    pub name_read : (eqb (get_or s 0 0) 34 && leb n.length most) ≡ true → n ≡ as_name (name_in most s)
-    name_read t =
-        rw (by_front h, and_left (eqb (get_or s 0 0) 34) _ t) (pick (name_from false (drop 1 s)) e (and_right (eqb (get_or s 0 0) 34) _ t))
-      where
-        pick : (o : Option (List ℕ)) → n ≡ as_name o → leb n.length most ≡ true → n ≡ as_name (at_most most o)
-        pick none f l = f
-        pick (some name) f l = let k : leb (length name) most ≡ true = rw f at l in rw k f
+  pub name_unquoted : (length s ≡ 0 → ⊥) → (get_or s 0 0 ≡ 34 → ⊥) → None ≡ as_name (name_in most s)
+  name_unquoted h q = rw (by_front h, ne_eqb (get_or s 0 0) 34 q)
 
-    pub name_size : (eqb (get_or s 0 0) 34 && leb n.length most) ≡ true → n.size ≤ 2 * most + 2
-    name_size t = pick (name_from false (drop 1 s)) e (leb-true n.length most (and_right (eqb (get_or s 0 0) 34) _ t))
-      where
-        pick : (o : Option (List ℕ)) → n ≡ as_name o → n.length ≤ most → n.size ≤ 2 * most + 2
-        pick none f l = rw f (omega arith)
-        pick (some name) f l = let k : length name ≤ most = rw f at l in rw f (omega (arith, doubled_most name))
+  module _ (h : length s ≡ 0 → ⊥) (q : get_or s 0 0 ≡ 34) where
+    quoted_front : name_in most s ≡ at_most most (name_from false (drop 1 s))
+    quoted_front = rw (by_front h, eq-eqb (get_or s 0 0) 34 q)
 
-    pub name_not : (eqb (get_or s 0 0) 34 && leb n.length most) ≡ false → record { size = 0; length = 0 } ≡ as_name (name_in most s)
-    name_not t = rw (by_front h) (go (eqb (get_or s 0 0) 34) t)
+    pub name_open : None ≡ as_name (name_from false (drop 1 s)) → None ≡ as_name (name_in most s)
+    name_open e = rw quoted_front (pick (name_from false (drop 1 s)) e)
       where
-        pick : (o : Option (List ℕ)) → n ≡ as_name o → leb n.length most ≡ false → record { size = 0; length = 0 } ≡ as_name (at_most most o)
-        pick none f l = refl
-        pick (some name) f l = let k : leb (length name) most ≡ false = rw f at l in rw k
+        pick : (o : Option (List ℕ)) → None ≡ as_name o → None ≡ as_name (at_most most o)
+        pick none f = refl
+        pick (some name) f = cc
 
-        go : (c : Bool) → (c && leb n.length most) ≡ false
-            → record { size = 0; length = 0 } ≡ as_name (cond c (at_most most (name_from false (drop 1 s))) none)
-        go false l = refl
-        go true l = pick (name_from false (drop 1 s)) e l
+    module _ (n : Name) (e : Some n ≡ as_name (name_from false (drop 1 s))) where
+      pub name_read : n.length ≤ most → Some n ≡ as_name (name_in most s)
+      name_read l = rw quoted_front (pick (name_from false (drop 1 s)) e)
+        where
+          pick : (o : Option (List ℕ)) → Some n ≡ as_name o → Some n ≡ as_name (at_most most o)
+          pick none f = cc
+          pick (some name) f =
+              let m : n ≡ record { size = quoted_size name; length = length name } = cc in
+              let k : length name ≤ most = rw m at l in
+              rw (le-leb (length name) most k) f
+
+      pub name_size : n.length ≤ most → n.size ≤ 2 * most + 2
+      name_size l = pick (name_from false (drop 1 s)) e
+        where
+          pick : (o : Option (List ℕ)) → Some n ≡ as_name o → n.size ≤ 2 * most + 2
+          pick none f = cc
+          pick (some name) f =
+              let m : n ≡ record { size = quoted_size name; length = length name } = cc in
+              let k : length name ≤ most = rw m at l in
+              rw m (omega (arith, doubled_most name))
+
+      pub name_long : most < n.length → None ≡ as_name (name_in most s)
+      name_long l = rw quoted_front (pick (name_from false (drop 1 s)) e)
+        where
+          pick : (o : Option (List ℕ)) → Some n ≡ as_name o → None ≡ as_name (at_most most o)
+          pick none f = refl
+          pick (some name) f =
+              let m : n ≡ record { size = quoted_size name; length = length name } = cc in
+              let k : most < length name = rw m at l in
+              rw (lt-leb (length name) most k)
 
 -- What was written is read: at the front of a list that goes on with no quote.
 from_written : (name rest : List ℕ) → listable name ≡ true → eqb (get_or rest 0 0) 34 ≡ false → name_from false (doubled name ++ (34 ∷ rest)) ≡ some name

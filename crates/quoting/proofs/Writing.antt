@@ -1,11 +1,11 @@
 -- A name written byte by byte, with its quotes around it; its bytes copied back.
-use Rattle.octets.specs.Standard.{ℕ, suc, ◌+◌, ◌-◌, ◌<◌, ◌≤◌, ◌≡◌, refl, sym, ◌∙◌, ap, arith, eq-eqb}
-use Rattle.octets.specs.Standard.{ne_eqb, List, [], ◌∷◌, ◌++◌, append_assoc, length, drop, get_or, set, length-append}
+use Rattle.octets.specs.Standard.{ℕ, suc, ◌+◌, ◌-◌, ◌<◌, ◌≤◌, ◌≡◌, refl, sym, ◌∙◌, ap, arith}
+use Rattle.octets.specs.Standard.{eqb, eqb-true, replicate, take, cond, Bool, true, false, List, [], ◌∷◌, ◌++◌, append_assoc, append-nil, length, drop, get_or, set, length-append}
 use Rattle.octets.specs.Standard.{length-take, length-drop, drop-drop, drop_of_length-le, get_or-drop, mid_of, put_mid}
-use Rattle.octets.specs.Run.{Wrote}
-use Rattle.octets.proofs.Writes.{Going, going_none, going_more, going_end, over_snoc, then, lent, back, named}
+use Rattle.octets.specs.Run.{Wrote, over}
+use Rattle.octets.proofs.Writes.{over_filled, Going, going_none, going_more, going_end, over_snoc, then, lent, back, named}
 use Rattle.quoting.specs.Quoted.{listed_byte, width, doubled, quoted, quoted_size, taken}
-use Rattle.quoting.proofs.Names.{doubled_next}
+use Rattle.quoting.proofs.Names.{doubled_next, byte_width}
 
 -- What is still to be written has room, and so has its first part.
 pub going_room : {b xs all : List ℕ} {n : ℕ} (v rest : List ℕ) → Going b xs n (v ++ rest) all → length all ≤ length b → length xs ≡ length b
@@ -15,27 +15,20 @@ going_room {b} {xs} {all} {n} v rest g h k =
     let c : n ≡ length g.done = g.wrote.count in
     simp (length-take, length-drop) (omega (arith, simp length-append at w))
 
--- One byte, which may be a quote.
-module _ (x : ℕ) (b : List ℕ) where
-  module _ (e : x ≡ 34) where
-    is_two : listed_byte x ≡ x ∷ x ∷ []
-    is_two = rw (eq-eqb x 34 e, e)
+-- One byte, which may be a quote: as often as it is wide.
+pub byte_filled : (x : ℕ) → replicate (width x) x ≡ listed_byte x
+byte_filled x = go (eqb x 34) refl
+  where
+    go : (c : Bool) → eqb x 34 ≡ c → replicate (cond c 2 1) x ≡ cond c (34 ∷ 34 ∷ []) (x ∷ [])
+    go true e = let q : x ≡ 34 = eqb-true x 34 e in rw q
+    go false e = refl
 
-    pub two_room : length (listed_byte x) ≤ length b → 2 ≤ length b
-    two_room h = rw is_two at h
+module _ (x : ℕ) (b : List ℕ) (room : length (listed_byte x) ≤ length b) (n : ℕ) (wide : n ≡ width x) where
+  pub byte_room : n ≤ length b
+  byte_room = omega (arith, byte_width x)
 
-    pub two_wrote : {xs : List ℕ} → Wrote (x ∷ x ∷ []) b xs 2 → Wrote (listed_byte x) b xs 2
-    two_wrote w = rw is_two w
-
-  module _ (e : x ≡ 34 → ⊥) where
-    is_one_lem : listed_byte x ≡ x ∷ []
-    is_one_lem = rw (ne_eqb x 34 e)
-
-    pub one_room : length (listed_byte x) ≤ length b → 1 ≤ length b
-    one_room h = rw is_one_lem at h
-
-    pub one_wrote : {xs : List ℕ} → Wrote (x ∷ []) b xs 1 → Wrote (listed_byte x) b xs 1
-    one_wrote w = rw is_one_lem w
+  pub byte_wrote : {y : List ℕ} → y ≡ replicate (length (take n b)) x → Wrote (listed_byte x) b (y ++ drop n b) n
+  byte_wrote e = named (ap (λ (k : ℕ). replicate k x) wide ∙ byte_filled x) refl (over_filled b n x byte_room e)
 
 -- The turns of the loop over a name.
 module _ (b name : List ℕ) where
@@ -91,6 +84,13 @@ module _ (b s : List ℕ) (n : ℕ) where
         whole = append_assoc g.done (x ∷ []) rest ∙ whole;
       }
 
-  pub taken_all : (i j : ℕ) {xs : List ℕ} → n ≤ j → j ≤ n → Going b xs j (taken (n - j) (drop i s)) (taken n s) → Wrote (taken n s) b xs n
-  unfolding taken
-  taken_all i j h k g = let m : n - j ≡ 0 = omega arith in named refl (omega arith) (going_end (rw m at g))
+-- all of them, in the front of a longer buffer
+pub taken_all : (out s : List ℕ) (n i j : ℕ) {xs : List ℕ} → n ≤ length out → length (take n out) ≡ n → n ≤ j → j ≤ n
+    → Going (take n out) xs j (taken (n - j) (drop i s)) (taken n s) → Wrote (taken n s) out (xs ++ drop n out) n
+unfolding taken over
+taken_all out s n i j {xs} room l h k g =
+    let m : n - j ≡ 0 = omega arith in
+    let w : Wrote (taken n s) (take n out) xs j = going_end (rw m at g) in
+    let c : length (taken n s) ≡ n = omega (arith, w.count) in
+    let e : xs ≡ taken n s = w.bytes ∙ rw (drop_of_length-le (take n out) {i = length (taken n s)} (omega (arith, c, l)), append-nil) in
+    record { count = sym c; bytes = rw (e, c) }

@@ -1,5 +1,6 @@
 -- 02 [14]: "names quoted, the quote doubled, bytes outside 32 to 126 refused".
 use Rattle.std.specs.Prelude.{ℕ, zero, suc, ◌+◌, Bool, true, false, ◌&&◌, not, cond, List, [], ◌∷◌, ◌++◌, eqb, leb, length, get_or, drop}
+use Rattle.std.specs.Prelude.{Option as Maybe, Some, None}
 use Rattle.std.proofs.Math.Option.{Option, none, some}
 use Rattle.quoting.specs.declared.Name.{Name}
 
@@ -60,10 +61,10 @@ unfoldable pub name_in : ℕ → List ℕ → Option (List ℕ)
 name_in most [] = none
 name_in most (x ∷ s) = cond (eqb x 34) (at_most most (name_from false s)) none
 
--- how code has it: the bytes that it takes in the list, with its quotes, and its length; both 0 where there is none
-abbrev pub as_name : Option (List ℕ) → Name
-as_name none = record { size = 0; length = 0 }
-as_name (some name) = record { size = quoted_size name; length = length name }
+-- how code has it: the bytes that it takes in the list, with its quotes, and its length
+abbrev pub as_name : Option (List ℕ) → Maybe Name
+as_name none = None
+as_name (some name) = Some (record { size = quoted_size name; length = length name })
 
 -- the n bytes of a name that are listed here, a doubled quote being one
 unfoldable pub taken : ℕ → List ℕ → List ℕ

@@ -1,39 +1,33 @@
 #![tactic(auto)]
 // Names of a list: quoted, the quote doubled; written and read.
-ghost use Rattle.std.specs.Prelude.{◌≡◌, false, [], ◌∷◌, ◌++◌, ◌+◌, ◌*◌, ◌<◌, ◌≤◌, length, get_or, drop};
+ghost use Rattle.std.specs.Prelude.{◌≡◌, false, [], ◌∷◌, ◌++◌, ◌+◌, ◌*◌, ◌<◌, ◌≤◌, length, get_or, drop, MatchOption};
+ghost use Rattle.std.specs.Bool.{⊤};
 ghost use Rattle.octets.specs.Run.{Wrote};
 ghost use Rattle.quoting.specs.Quoted.{is_listed, listable, listed_byte, width, doubled, quoted, quoted_size, closes_at, name_from};
 ghost use Rattle.quoting.specs.Quoted.{name_in, as_name, taken};
 
-const QUOTE: u8 = 34;
+const QUOTE: u8 = b'"';
 
-// "bytes outside 32 to 126 refused"
-const FIRST: u8 = 32;
-
-const LAST: u8 = 126;
-
-// A name that was read: how many bytes it takes in the list, and how long it is. Both are 0 where there is none.
+// A name that was read: how many bytes it takes in the list, and how long it is.
 #[derive(Clone, Copy)]
 pub struct Name {
     pub size: usize,
     pub length: usize,
 }
 
+// "bytes outside 32 to 126 refused"
 fn is_listed(x: u8) -> bool
     ensures { result ≡ is_listed x }
 {
-    (FIRST <= x) & (x <= LAST)
+    matches!(x, 32..=126)
 }
 
 // Whether a name can be listed.
 pub fn listable(name: &[u8]) -> bool
     ensures { result ≡ listable name.now }
 {
-    let mut i = 0;
-    while i < name.len() {
-        if is_listed(name[i]) {
-            i += 1;
-        } else {
+    for x in name {
+        if !is_listed(*x) {
             return false;
         }
     }
@@ -53,8 +47,8 @@ pub fn size(name: &[u8]) -> usize
     ensures { (result ≡ quoted_size name.now) × (result ≤ 512) }
 {
     let mut n = 0;
-    for i in 0..name.len() {
-        n += width(name[i]);
+    for x in name {
+        n += width(*x);
     }
     n + 2
 }
@@ -67,26 +61,14 @@ pub fn put_one(out: &mut [u8], x: u8)
     out[0] = x;
 }
 
-// Writes a byte twice.
-fn put_twice(out: &mut [u8], x: u8)
-    requires { 2 ≤ length out.old }
-    ensures { Wrote (x ∷ x ∷ []) out.old out.new 2 }
-{
-    out[0] = x;
-    out[1] = x;
-}
-
 // Writes a byte of a name.
 fn put_byte(out: &mut [u8], x: u8) -> usize
     requires { length (listed_byte x) ≤ length out.old }
     ensures { (result ≤ length out.old) × Wrote (listed_byte x) out.old out.new result }
 {
-    if x == QUOTE {
-        put_twice(out, x);
-        return 2;
-    }
-    put_one(out, x);
-    1
+    let n = width(x);
+    out[..n].fill(x);
+    n
 }
 
 // Writes a name without the quotes around it.
@@ -95,8 +77,8 @@ fn put_doubled(out: &mut [u8], name: &[u8]) -> usize
     ensures { (result ≤ length out.old) × Wrote (doubled name.now) out.old out.new result }
 {
     let mut n = 0;
-    for i in 0..name.len() {
-        n += put_byte(&mut out[n..], name[i]);
+    for x in name {
+        n += put_byte(&mut out[n..], *x);
     }
     n
 }
@@ -125,7 +107,7 @@ fn closes(s: &[u8], i: usize) -> bool
     requires { i < length s.now }
     ensures { result ≡ closes_at s.now i }
 {
-    (s[i] == QUOTE) & !(octets::byte_or_zero(s, i + 1) == QUOTE)
+    (s[i] == QUOTE) & (octets::byte_or_zero(s, i + 1) != QUOTE)
 }
 
 // The place after the byte of a name that is listed at a place.
@@ -137,41 +119,41 @@ fn after(s: &[u8], i: usize) -> usize
 }
 
 // The name that goes on behind an opening quote.
-fn behind_quote(s: &[u8]) -> Name
+fn behind_quote(s: &[u8]) -> Option<Name>
     requires { 1 ≤ length s.now }
     ensures { result ≡ as_name (name_from false (drop 1 s.now)) }
 {
     let mut i = 1;
-    let mut n = 0;
+    let mut length = 0;
+    // By place: a quote of the name takes two bytes.
     while i < s.len() {
         if closes(s, i) {
-            return Name {
+            return Some(Name {
                 size: i + 1,
-                length: n,
-            };
+                length,
+            });
         }
-        if is_listed(s[i]) {
-            i = after(s, i);
-            n += 1;
-        } else {
-            return Name { size: 0, length: 0 };
+        if !is_listed(s[i]) {
+            return None;
         }
+        i = after(s, i);
+        length += 1;
     }
-    Name { size: 0, length: 0 }
+    None
 }
 
 // A name in quotes at the front of a slice, of at most so many bytes.
-pub fn read(s: &[u8], most: usize) -> Name
-    ensures { (result ≡ as_name (name_in most s.now)) × (result.size ≤ 2 * most + 2) }
+pub fn read(s: &[u8], most: usize) -> Option<Name>
+    ensures { (result ≡ as_name (name_in most s.now)) × MatchOption result ⊤ (λ n. n.size ≤ 2 * most + 2) }
 {
     if s.len() == 0 {
-        return Name { size: 0, length: 0 };
+        return None;
     }
-    let n = behind_quote(s);
-    if (s[0] == QUOTE) & (n.length <= most) {
-        return n;
+    if s[0] != QUOTE {
+        return None;
     }
-    Name { size: 0, length: 0 }
+    let n = behind_quote(s)?;
+    if n.length <= most { Some(n) } else { None }
 }
 
 // Copies n bytes of a name that are listed at the front of a slice, each doubled quote once.
@@ -180,9 +162,9 @@ pub fn copy(out: &mut [u8], s: &[u8], n: usize)
     ensures { Wrote (taken n s.now) out.old out.new n }
 {
     let mut i = 0;
-    for j in 0..n {
+    for y in &mut out[..n] {
         let x = octets::byte_or_zero(s, i);
-        out[j] = x;
+        *y = x;
         i += width(x);
     }
 }

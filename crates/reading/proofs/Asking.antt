@@ -1,13 +1,14 @@
 -- One Supported-Features: its bits, its members' numbers, and what it asks for.
+use Rattle.std.specs.Prelude.{Result, Ok, Err}
 use Rattle.octets.specs.Standard.{ℕ, ◌+◌, ◌/◌, ◌%◌, ◌^◌, ◌≤◌, ◌<◌, ◌≡◌, refl, sym, ap, ◌∙◌, List, Bool, true, false, not, ◌&&◌, ◌||◌, length}
 use Rattle.octets.specs.Standard.{eqb, ne_eqb}
 use Rattle.octets.specs.All.{all_below}
-use Rattle.octets.proofs.All.{all_more, all_end}
+use Rattle.octets.proofs.All.{all_end}
+use Rattle.reading.proofs.Below.{all_fails, all_on}
 use Rattle.diameter.specs.Avp.{data_of, value_of}
 use Rattle.diameter.specs.Reader.{between, read_of, own_of, Here, Spans}
 use Rattle.diameter.specs.Walk.{Walk, walk}
 use Rattle.diameter.specs.declared.Avp.{Avp}
-use Rattle.diameter.specs.declared.Read.{Read}
 use Rattle.diameter.specs.declared.Span.{Span}
 use Rattle.diameter.proofs.Parts.{member_walked, member_fault, member_past}
 use Rattle.diameter.proofs.Reading.{own_flags}
@@ -15,18 +16,29 @@ use Rattle.reading.specs.Features.{clear_or_in, bit_outside, member_value, asks_
 use Rattle.reading.specs.Groups.{feature_members, members_of, is_of, gathers}
 use Rattle.reading.specs.declared.Dialect.{Dialect}
 use Rattle.reading.specs.declared.group.Group.TheVariants.{SupportedFeatures}
-use Rattle.diameter.specs.declared.Read.TheVariants as read
 
 -- the loop over the bits
-module _ (wanted set : ℕ) where
-  pub bits_more : (k : ℕ) {inside : Bool} → inside ≡ all_below (clear_or_in wanted set) k
-      → (inside && (not (eqb (wanted / 2 ^ k % 2) 1) || eqb (set / 2 ^ k % 2) 1)) ≡ all_below (clear_or_in wanted set) (k + 1)
-  unfolding clear_or_in
-  bits_more k e = all_more (clear_or_in wanted set) k e refl
+outside : (x y : Bool) → (not x || y) ≡ not (x && not y)
+outside true true = refl
+outside true false = refl
+outside false y = refl
 
-  pub bits_all : (k : ℕ) {inside : Bool} → inside ≡ all_below (clear_or_in wanted set) k → k ≤ 32 → 32 ≤ k → not inside ≡ bit_outside wanted set
+module _ (wanted set k : ℕ) where
+  pub bits_out : k < 32 → (eqb (wanted / 2 ^ k % 2) 1 && not (eqb (set / 2 ^ k % 2) 1)) ≡ true → true ≡ bit_outside wanted set
+  unfolding bit_outside clear_or_in
+  bits_out h t =
+      let some : false ≡ all_below (clear_or_in wanted set) 32 =
+      all_fails (clear_or_in wanted set) 32 k h (outside (eqb (wanted / 2 ^ k % 2) 1) (eqb (set / 2 ^ k % 2) 1) ∙ rw t) in
+      rw (← some)
+
+  pub bits_more : true ≡ all_below (clear_or_in wanted set) k → (eqb (wanted / 2 ^ k % 2) 1 && not (eqb (set / 2 ^ k % 2) 1)) ≡ false
+      → true ≡ all_below (clear_or_in wanted set) (k + 1)
+  unfolding clear_or_in
+  bits_more e f = all_on (clear_or_in wanted set) k e (outside (eqb (wanted / 2 ^ k % 2) 1) (eqb (set / 2 ^ k % 2) 1) ∙ rw f)
+
+  pub bits_all : true ≡ all_below (clear_or_in wanted set) k → k ≤ 32 → 32 ≤ k → false ≡ bit_outside wanted set
   unfolding bit_outside
-  bits_all k e a b = rw (all_end (clear_or_in wanted set) k 32 e a b)
+  bits_all e a b = let all = all_end (clear_or_in wanted set) k 32 e a b in rw (← all)
 
 -- the loop over the members
 module _ (s : List ℕ) (at end : ℕ) (code vendor whole : ℕ) (left : member_value code vendor (walk (between s at end)) ≡ whole) where
@@ -34,12 +46,12 @@ module _ (s : List ℕ) (at end : ℕ) (code vendor whole : ℕ) (left : member_
   unfolding member_value
   value_past h = rw (member_past s at end h) at left
 
-  module _ (r : Read) (e : r ≡ read_of at (between s at end)) where
-    pub value_cut : {p : ℕ} → at < end → end ≤ length s → r ≡ read.Fault p → 0 ≡ whole
+  module _ (r : Result Avp ℕ) (e : r ≡ read_of at (between s at end)) where
+    pub value_cut : {p : ℕ} → at < end → end ≤ length s → r ≡ Err p → 0 ≡ whole
     unfolding member_value
     value_cut h fits d = rw (member_fault s at end r e d h fits) at left
 
-    module _ (a : Avp) (d : r ≡ read.Avp a) (x : Bool) (ex : x ≡ is_of code vendor (own_of s a)) where
+    module _ (a : Avp) (d : r ≡ Ok a) (x : Bool) (ex : x ≡ is_of code vendor (own_of s a)) where
       pub value_is : (n : ℕ) → x ≡ true → n ≡ value_of (own_of s a) → n ≡ whole
       unfolding member_value
       value_is n t en = en ∙ (rw (member_walked s at end r e a d, ← ex, t) at left)

@@ -1,5 +1,6 @@
 pub mod Alone
 pub mod Asking
+pub mod Below
 pub mod Columns
 pub mod Judging
 pub mod Known

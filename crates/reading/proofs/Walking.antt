@@ -1,12 +1,11 @@
 -- A walk over AVPs goes on and ends: what is left grows less at each.
+use Rattle.std.specs.Prelude.{Result, Ok}
 use Rattle.octets.specs.Standard.{ℕ, ◌-◌, ◌<◌, ◌≤◌, ◌≡◌, List, arith}
 use Rattle.diameter.specs.Reader.{read_of}
 use Rattle.diameter.specs.declared.Avp.{Avp}
-use Rattle.diameter.specs.declared.Read.{Read}
 use Rattle.diameter.proofs.Reading.{read_later}
-use Rattle.diameter.specs.declared.Read.TheVariants as read
 
-module _ (at : ℕ) (t : List ℕ) (r : Read) (e : r ≡ read_of at t) (a : Avp) (d : r ≡ read.Avp a) where
+module _ (at : ℕ) (t : List ℕ) (r : Result Avp ℕ) (e : r ≡ read_of at t) (a : Avp) (d : r ≡ Ok a) where
   pub read_less : {n : ℕ} → at < n → n - a.next < n - at
   read_less h = omega (arith, read_later at t r e a d)
 

@@ -7,7 +7,7 @@ ghost use Rattle.reading.specs.Features.{bit_outside, member_value, asks_other, 
 
 use crate::group::Group;
 use crate::{Dialect, group};
-use diameter::{Avp, Read, Span, codes};
+use diameter::{Avp, Span, codes};
 
 // The bits of a list of features, and the one list that is supported.
 const BITS: u32 = 32;
@@ -18,23 +18,23 @@ const LIST: u32 = 1;
 fn bit_outside(wanted: u32, set: u32) -> bool
     ensures { result ≡ bit_outside wanted set }
 {
-    let mut inside = true;
-    let mut k = 0;
-    while k < BITS {
-        inside = inside & (((wanted >> k) % 2 != 1) | ((set >> k) % 2 == 1));
-        k += 1;
+    for k in 0..BITS {
+        if ((wanted >> k) % 2 == 1) & ((set >> k) % 2 != 1) {
+            return true;
+        }
     }
-    !inside
+    false
 }
 
-// The number that the first AVP of a code and vendor holds, in a group's span; 0 where there is none.
+// The number that the first AVP of a code and vendor holds, in a group's span; 0 where there is none, as the definition `member_value` has it.
 fn member_value(code: u32, vendor: u32, s: &[u8], span: Span) -> u32
     requires { span.end ≤ length s.now }
     ensures { result ≡ member_value code vendor (walk (between s.now span.from span.end)) }
 {
+    // By place: each AVP says where the next one begins.
     let mut at = span.from;
     while at < span.end {
-        let Read::Avp(a) = diameter::read_before(s, at, span.end) else {
+        let Ok(a) = diameter::read_before(s, at, span.end) else {
             return 0;
         };
         if group::is_of(code, vendor, s, a) {

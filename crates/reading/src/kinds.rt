@@ -1,4 +1,5 @@
 // The known kinds of AVPs. A kind's number is its place in the order in which a missing one is looked for; 0 is an unknown kind.
+// By number, and no enum: the definition `known` numbers them so, and the places that reading leaves stand in an array by it.
 ghost use Rattle.std.specs.Prelude.{◌≡◌, ◌<◌};
 ghost use Rattle.diameter.specs.Reader.{own_of, Here};
 ghost use Rattle.reading.specs.Kinds.{kinds, uses, everywhere, of_cx, of_sh, row, kind_by, kind_of, row_of, use_in, is_needed};
@@ -69,7 +70,7 @@ const S: Use = Use::Several;
 const SERVER: Content = Content::Sized(1, 96);
 
 // A 4-byte number of any value.
-const NUMBER: Content = Content::Number(0, 4294967295);
+pub const NUMBER: Content = Content::Number(0, u32::MAX);
 
 // The uses of a kind: in a UAR, in a SAR, in a LIR, in a MAR and on Sh.
 fn uses(uar: Use, sar: Use, lir: Use, mar: Use, udr: Use) -> Uses
@@ -116,6 +117,7 @@ fn row(code: u32, vendor: u32, content: Content, uses: Uses) -> Kind
 
 // "Known, vendor 0 without V: .. With V and 10415: .." and "Needed everywhere: .. UAR then .. SAR .. LIR ..", 003's grammar of a MAR, and 001's of a UDR: the
 // row of a kind.
+#[tactic(auto, unfolding(crate::specs::Kinds::row_of, crate::specs::Kinds::known))]
 pub fn row_of(k: usize) -> Kind
     ensures { result ≡ row_of k }
 {
@@ -201,6 +203,7 @@ pub fn row_of(k: usize) -> Kind
 }
 
 // "Known, vendor 0 without V"
+#[tactic(auto, using(crate::proofs::Known::base_none), unfolding(crate::specs::Kinds::kind_by, crate::specs::Kinds::kind_from, crate::specs::Kinds::known))]
 fn base_kind(code: u32) -> usize
     ensures { (result ≡ kind_by 0 0 code) × (result < kinds) }
 {
@@ -220,6 +223,7 @@ fn base_kind(code: u32) -> usize
 }
 
 // "With V and 10415"
+#[tactic(auto, using(crate::proofs::Known::vendor_none), unfolding(crate::specs::Kinds::kind_by, crate::specs::Kinds::kind_from, crate::specs::Kinds::known))]
 fn vendor_kind(code: u32) -> usize
     ensures { (result ≡ kind_by 128 10415 code) × (result < kinds) }
 {
@@ -269,27 +273,16 @@ pub fn use_in(d: Dialect, k: Kind) -> Use
     if terms.application == codes::SH {
         return uses.udr;
     }
-    if d.command == crate::UAR {
-        return uses.uar;
+    match d.command {
+        crate::UAR => uses.uar,
+        crate::SAR => uses.sar,
+        crate::LIR => uses.lir,
+        _ => uses.mar,
     }
-    if d.command == crate::SAR {
-        return uses.sar;
-    }
-    if d.command == crate::LIR {
-        return uses.lir;
-    }
-    uses.mar
 }
 
 pub fn needed(u: Use) -> bool
     ensures { result ≡ is_needed u }
 {
-    match u {
-        Use::Unknown => false,
-        Use::Unnamed => false,
-        Use::Needed => true,
-        Use::Optional => false,
-        Use::Repeated => false,
-        Use::Several => true,
-    }
+    matches!(u, Use::Needed | Use::Several)
 }

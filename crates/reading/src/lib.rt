@@ -10,7 +10,7 @@ pub mod plain;
 pub mod rules;
 
 ghost use Rattle.std.specs.Prelude.{◌≡◌};
-ghost use Rattle.reading.specs.Verdicts.{number_of};
+ghost use Rattle.reading.specs.Verdicts.{number_of, fault_at, fault_of, lack_of};
 
 use crate::group::Group;
 
@@ -54,21 +54,53 @@ pub enum Outcome {
 }
 
 // A result's number, B or X.
+#[tactic(auto, unfolding(crate::specs::Verdicts::number_of))]
 pub fn number_of(o: Outcome) -> u32
     ensures { result ≡ number_of o }
 {
     match o {
-        Outcome::Base(n) => n,
-        Outcome::Experimental(n) => n,
+        Outcome::Base(n) | Outcome::Experimental(n) => n,
     }
 }
 
-// A result beside the place of the AVP at fault (0: no AVP of the request is) and the kind that is missing (0: none is).
+// A result beside the place of the AVP at fault (0: no AVP of the request is) and the kind that is missing (0: none is): numbers, as the C interface and
+// the definitions `fault_of` and `lack_of` have them.
 #[derive(Clone, Copy)]
 pub struct Verdict {
     pub result: Outcome,
     pub place: usize,
     pub lacks: usize,
+}
+
+impl Verdict {
+    // The fault of an AVP that begins at a place.
+    pub fn at(number: u32, place: usize) -> Verdict
+        ensures { result ≡ fault_at number place }
+    {
+        Verdict {
+            result: Outcome::Base(number),
+            place,
+            lacks: 0,
+        }
+    }
+
+    // A fault that no AVP of the request has.
+    pub fn of(number: u32) -> Verdict
+        ensures { result ≡ fault_of number }
+    {
+        Verdict::at(number, 0)
+    }
+
+    // A kind that is missing.
+    pub fn lacking(k: usize) -> Verdict
+        ensures { result ≡ lack_of k }
+    {
+        Verdict {
+            result: Outcome::Base(base::MISSING_AVP),
+            place: 0,
+            lacks: k,
+        }
+    }
 }
 
 // What the data of a kind must be: anything; a 4-byte number within limits; so many bytes; the members of a group.
@@ -119,7 +151,7 @@ pub struct Member {
     pub many: bool,
 }
 
-// What rules (c) to (h) say of one AVP: it is taken, it is skipped, or it is at fault with this base result.
+// What rules (c) to (h) say of one AVP: it is taken, it is skipped, or it is at fault with this base result, as the definition `rule` says it.
 #[derive(Clone, Copy)]
 pub enum Ruled {
     Taken,

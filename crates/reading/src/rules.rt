@@ -1,23 +1,22 @@
 // Rules (c) to (h) for one AVP.
-ghost use Rattle.std.specs.Prelude.{◌≡◌, ◌<◌};
+ghost use Rattle.std.specs.Prelude.{ℕ, ◌≡◌, ◌<◌};
 ghost use Rattle.diameter.specs.Reader.{own_of, Here};
 ghost use Rattle.reading.specs.Kinds.{kinds, kind_of};
 ghost use Rattle.reading.specs.Rules.{content_fault, of_unknown, of_content, of_once, rule_by, rule};
 ghost use Rattle.reading.specs.Places.{seen_of};
+ghost use Rattle.reading.specs.Verdicts.{Faulted};
 
 use crate::{Content, Dialect, Ruled, Use, base, group, kinds, plain};
 use diameter::Avp;
 
-// (g), (h) The fault of what an AVP holds, 0 where there is none.
-pub fn content_fault(d: Dialect, c: Content, s: &[u8], a: Avp) -> u32
+// (g), (h) The fault of what an AVP holds.
+pub fn content_fault(d: Dialect, c: Content, s: &[u8], a: Avp) -> Result<(), u32>
     requires { Here s.now a }
-    ensures { result ≡ content_fault d c (own_of s.now a) }
+    ensures { Faulted result (content_fault d c (own_of s.now a)) }
 {
     match c {
-        Content::Free => plain::plain_fault(c, s, a),
-        Content::Number(_, _) => plain::plain_fault(c, s, a),
-        Content::Sized(_, _) => plain::plain_fault(c, s, a),
         Content::Members(g) => group::group_fault(d, g, s, a),
+        _ => plain::plain_fault(c, s, a),
     }
 }
 
@@ -32,18 +31,18 @@ fn of_unknown(flags: u8) -> Ruled
 }
 
 // (g), (h)
-fn of_content(fault: u32) -> Ruled
-    ensures { result ≡ of_content fault }
+fn of_content(fault: Result<(), u32>) -> Ruled
+    ensures { (n : ℕ) → Faulted fault n → result ≡ of_content n }
 {
-    if fault != 0 {
-        return Ruled::Fault(fault);
+    match fault {
+        Ok(()) => Ruled::Taken,
+        Err(n) => Ruled::Fault(n),
     }
-    Ruled::Taken
 }
 
 // (f) "too often: B5009"
-fn of_once(earlier: bool, fault: u32) -> Ruled
-    ensures { result ≡ of_once earlier fault }
+fn of_once(earlier: bool, fault: Result<(), u32>) -> Ruled
+    ensures { (n : ℕ) → Faulted fault n → result ≡ of_once earlier n }
 {
     if earlier {
         return Ruled::Fault(base::AVP_OCCURS_TOO_MANY_TIMES);
@@ -52,8 +51,8 @@ fn of_once(earlier: bool, fault: u32) -> Ruled
 }
 
 // What the rules say of an AVP, by its kind's use, by whether one of its kind came earlier, by its flags and by the fault of what it holds.
-pub fn rule_by(u: Use, earlier: bool, flags: u8, fault: u32) -> Ruled
-    ensures { result ≡ rule_by u earlier flags fault }
+pub fn rule_by(u: Use, earlier: bool, flags: u8, fault: Result<(), u32>) -> Ruled
+    ensures { (n : ℕ) → Faulted fault n → result ≡ rule_by u earlier flags n }
 {
     if flags % diameter::P_FLAG != 0 {
         return Ruled::Fault(base::INVALID_AVP_BITS);
@@ -61,10 +60,8 @@ pub fn rule_by(u: Use, earlier: bool, flags: u8, fault: u32) -> Ruled
     match u {
         Use::Unknown => of_unknown(flags),
         Use::Unnamed => Ruled::Skipped,
-        Use::Needed => of_once(earlier, fault),
-        Use::Optional => of_once(earlier, fault),
-        Use::Repeated => of_content(fault),
-        Use::Several => of_content(fault),
+        Use::Needed | Use::Optional => of_once(earlier, fault),
+        Use::Repeated | Use::Several => of_content(fault),
     }
 }
 
@@ -75,7 +72,6 @@ pub fn rule_at(s: &[u8], d: Dialect, places: [usize; kinds::KINDS], a: Avp, k: u
 {
     let earlier = diameter::present_at(s, places[k]);
     let row = kinds::row_of(k);
-    let content = row.content;
-    let fault = content_fault(d, content, s, a);
+    let fault = content_fault(d, row.content, s, a);
     rule_by(kinds::use_in(d, row), earlier, a.flags, fault)
 }

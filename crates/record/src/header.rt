@@ -1,5 +1,5 @@
 // The header block.
-ghost use Rattle.std.specs.Prelude.{◌≡◌, ◌≤◌, length};
+ghost use Rattle.std.specs.Prelude.{◌≡◌, ◌≤◌};
 ghost use Rattle.octets.specs.Run.{Mask};
 ghost use Rattle.record.specs.HeaderBlock.{header_of, sound_counts, sound_edition, is_header, sound_numbers, sound_header_rest, sound_header};
 
@@ -74,8 +74,7 @@ impl Header {
     pub const MOST_NETWORKS: u8 = 8;
 
     // The numbers of a block.
-    pub fn read(b: &[u8]) -> Header
-        requires { length b.now ≡ 512 }
+    pub fn read(b: &[u8; 512]) -> Header
         ensures { result ≡ header_of b.now }
     {
         Header {
@@ -90,43 +89,44 @@ impl Header {
             issue: number::be32(b, Header::ISSUE_AT),
         }
     }
-}
 
-// The counts of records and of networks.
-fn counts(h: Header) -> bool
-    ensures { result ≡ sound_counts h }
-{
-    (h.count <= Header::MOST_COUNT) & (h.networks <= Header::MOST_NETWORKS)
-}
+    // The counts of records and of networks.
+    fn counts(self) -> bool
+        ensures { result ≡ sound_counts self }
+    {
+        (self.count <= Header::MOST_COUNT) & (self.networks <= Header::MOST_NETWORKS)
+    }
 
-// One of the two editions; the first names no issue number.
-fn edition(h: Header) -> bool
-    ensures { result ≡ sound_edition h }
-{
-    (h.edition == Header::FIRST_EDITION) & (h.issue == 0) | (h.edition == Header::SECOND_EDITION)
-}
+    // One of the two editions; the first names no issue number.
+    fn edition(self) -> bool
+        ensures { result ≡ sound_edition self }
+    {
+        (self.edition == Header::FIRST_EDITION) & (self.issue == 0)
+            | (self.edition == Header::SECOND_EDITION)
+    }
 
-// The kind, the edition and the block's number.
-fn is_header(h: Header) -> bool
-    ensures { result ≡ is_header h }
-{
-    (h.kind == Header::KIND) & edition(h) & (h.number == Header::NUMBER)
-}
+    // The kind, the edition and the block's number.
+    fn is_header(self) -> bool
+        ensures { result ≡ is_header self }
+    {
+        (self.kind == Header::KIND) & self.edition() & (self.number == Header::NUMBER)
+    }
 
-// Keep, and the lengths of host and realm.
-fn numbers(h: Header) -> bool
-    ensures { result ≡ sound_numbers h }
-{
-    (h.keep <= Header::MOST_KEEP)
-        & (Header::LEAST_NAME <= h.host)
-        & (h.host <= Header::MOST_NAME)
-        & (Header::LEAST_NAME <= h.realm)
-        & (h.realm <= Header::MOST_NAME)
+    // Keep, and the lengths of host and realm.
+    fn numbers(self) -> bool
+        ensures { result ≡ sound_numbers self }
+    {
+        (self.keep <= Header::MOST_KEEP)
+            & (Header::LEAST_NAME <= self.host)
+            & (self.host <= Header::MOST_NAME)
+            & (Header::LEAST_NAME <= self.realm)
+            & (self.realm <= Header::MOST_NAME)
+    }
 }
 
 // "Bytes not named are zero, and so are unused places in a field": as of a record, one number is tested.
-fn rest(b: &[u8], h: Header, mask: &[u8]) -> bool
-    requires { (length b.now ≡ 512) × (h.host ≤ 64) × (h.realm ≤ 64) × Mask mask.now }
+fn rest(b: &[u8; 512], h: Header, mask: &[u8]) -> bool
+    requires { (h.host ≤ 64) × (h.realm ≤ 64) × Mask mask.now }
     ensures { result ≡ sound_header_rest b.now h }
 {
     let blank = number::be16(b, Header::BLANK_AT) as usize;
@@ -139,14 +139,13 @@ fn rest(b: &[u8], h: Header, mask: &[u8]) -> bool
 }
 
 // Whether a block is a sound header. Its numbers come first, as of a record.
-pub fn sound(b: &[u8], mask: &[u8]) -> bool
-    requires { (length b.now ≡ 512) × Mask mask.now }
+pub fn sound(b: &[u8; 512], mask: &[u8]) -> bool
+    requires { Mask mask.now }
     ensures { result ≡ sound_header b.now }
 {
     let h = Header::read(b);
-    if counts(h) & is_header(h) & numbers(h) {
-        (sum::sum_words(b, 128) == 0) & rest(b, h, mask) & networks::sound(b, h.networks as usize)
-    } else {
-        false
-    }
+    h.counts() & h.is_header() & h.numbers()
+        && (sum::sum_words(b, 128) == 0)
+            & rest(b, h, mask)
+            & networks::sound(b, h.networks as usize)
 }

@@ -1,7 +1,6 @@
 // The eight places of visited networks in the header block.
-ghost use Rattle.std.specs.Prelude.{◌≡◌, ◌+◌, ◌≤◌, ◌<◌, length};
-ghost use Rattle.octets.specs.All.{all_below};
-ghost use Rattle.record.specs.Networks.{place_at, used_place, sound_place, same_byte, other_place, new_place, sound_networks};
+ghost use Rattle.std.specs.Prelude.{◌≡◌, ◌≤◌, ◌<◌};
+ghost use Rattle.record.specs.Networks.{place_at, used_place, sound_place, other_place, new_place, sound_networks};
 
 use crate::header::Header;
 use octets::run;
@@ -22,8 +21,8 @@ pub fn place(i: usize) -> usize
 }
 
 // A place in use: its length, and zeros after the name.
-fn used(b: &[u8], i: usize) -> bool
-    requires { (length b.now ≡ 512) × (i < 8) }
+fn used(b: &[u8; 512], i: usize) -> bool
+    requires { i < 8 }
     ensures { result ≡ used_place b.now i }
 {
     let at = place(i);
@@ -32,8 +31,8 @@ fn used(b: &[u8], i: usize) -> bool
 }
 
 // Place i of a header with n networks.
-fn sound_place(b: &[u8], n: usize, i: usize) -> bool
-    requires { (length b.now ≡ 512) × (i < 8) }
+fn sound_place(b: &[u8; 512], n: usize, i: usize) -> bool
+    requires { i < 8 }
     ensures { result ≡ sound_place b.now n i }
 {
     if i < n {
@@ -44,77 +43,26 @@ fn sound_place(b: &[u8], n: usize, i: usize) -> bool
     }
 }
 
-// Whether the places that begin at x and at y hold the same bytes.
-fn same_place(b: &[u8], x: usize, y: usize) -> bool
-    requires { (length b.now ≡ 512) × (x ≤ 368) × (y ≤ 368) }
-    ensures { result ≡ all_below (same_byte b.now x y) 32 }
-{
-    let mut alike = true;
-    for i in 0..PLACE {
-        alike = alike & (b[x + i] == b[y + i]);
-    }
-    alike
-}
-
 // Place i holds another name than place j.
-fn other(b: &[u8], j: usize, i: usize) -> bool
-    requires { (length b.now ≡ 512) × (i < 8) × (j < 8) }
+fn other(b: &[u8; 512], j: usize, i: usize) -> bool
+    requires { (i < 8) × (j < 8) }
     ensures { result ≡ other_place b.now j i }
 {
-    !same_place(b, place(i), place(j))
+    let (x, y) = (place(i), place(j));
+    b[x..x + PLACE] != b[y..y + PLACE]
 }
 
-// Place j holds another name than each place before it.
-fn others(b: &[u8], j: usize) -> bool
-    requires { (length b.now ≡ 512) × (j < 8) }
-    ensures { result ≡ all_below (other_place b.now j) j }
-{
-    let mut apart = true;
-    for i in 0..j {
-        apart = apart & other(b, j, i);
-    }
-    apart
-}
-
-// The same of place j, if it is in use: most headers use few places, and only those are compared.
-fn new_place(b: &[u8], n: usize, j: usize) -> bool
-    requires { (length b.now ≡ 512) × (j < 8) }
+// Place j holds another name than each place before it, if it is in use: most headers use few places, and only those are compared.
+fn new_place(b: &[u8; 512], n: usize, j: usize) -> bool
+    requires { j < 8 }
     ensures { result ≡ new_place b.now n j }
 {
-    if n <= j {
-        return true;
-    }
-    others(b, j)
+    n <= j || (0..j).all(|i| other(b, j, i))
 }
 
-// Each place by itself.
-fn each_sound(b: &[u8], n: usize) -> bool
-    requires { length b.now ≡ 512 }
-    ensures { result ≡ all_below (sound_place b.now n) 8 }
-{
-    let mut good = true;
-    for i in 0..PLACES {
-        good = good & sound_place(b, n, i);
-    }
-    good
-}
-
-// "no two alike"
-fn each_new(b: &[u8], n: usize) -> bool
-    requires { length b.now ≡ 512 }
-    ensures { result ≡ all_below (new_place b.now n) 8 }
-{
-    let mut good = true;
-    for j in 0..PLACES {
-        good = good & new_place(b, n, j);
-    }
-    good
-}
-
-// Whether the places of a header with n networks are sound.
-pub fn sound(b: &[u8], n: usize) -> bool
-    requires { length b.now ≡ 512 }
+// Whether the places of a header with n networks are sound: each by itself, and "no two alike".
+pub fn sound(b: &[u8; 512], n: usize) -> bool
     ensures { result ≡ sound_networks b.now n }
 {
-    each_sound(b, n) & each_new(b, n)
+    (0..PLACES).all(|i| sound_place(b, n, i)) && (0..PLACES).all(|j| new_place(b, n, j))
 }

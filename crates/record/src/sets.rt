@@ -1,5 +1,5 @@
 // Two records of one set.
-ghost use Rattle.std.specs.Prelude.{◌≡◌, length};
+ghost use Rattle.std.specs.Prelude.{◌≡◌};
 ghost use Rattle.record.specs.Fields.{set_of};
 ghost use Rattle.record.specs.Sets.{same_set, agreeing};
 
@@ -7,30 +7,23 @@ use crate::fields;
 use crate::subscriber::Record;
 use octets::{name, number};
 
-// The number of a record's set, 0 for none.
-pub fn set(b: &[u8]) -> u32
-    requires { length b.now ≡ 512 }
+// The number of a record's set; 0 for none, as the block has it.
+pub fn set(b: &[u8; 512]) -> u32
     ensures { result ≡ set_of b.now }
 {
     number::be16(b, Record::SET_AT)
 }
 
 // "the records of one subscription with the same nonzero number": names are compared only where the numbers are the same.
-pub fn same_set(a: &[u8], b: &[u8]) -> bool
-    requires { (length a.now ≡ 512) × (length b.now ≡ 512) }
+pub fn same_set(a: &[u8; 512], b: &[u8; 512]) -> bool
     ensures { result ≡ same_set a.now b.now }
 {
     let number = set(a);
-    if (0 < number) & (number == set(b)) {
-        name::same(fields::private(a), fields::private(b))
-    } else {
-        false
-    }
+    (0 < number) & (number == set(b)) && name::same(fields::private(a), fields::private(b))
 }
 
 // "agree in state, pending and server name"
-pub fn agree(a: &[u8], b: &[u8]) -> bool
-    requires { (length a.now ≡ 512) × (length b.now ≡ 512) }
+pub fn agree(a: &[u8; 512], b: &[u8; 512]) -> bool
     ensures { result ≡ agreeing a.now b.now }
 {
     (a[Record::STATE_AT] == b[Record::STATE_AT])

@@ -1,5 +1,5 @@
 // A record block: one public identity of a subscriber.
-ghost use Rattle.std.specs.Prelude.{◌≡◌, ◌≤◌, eqb, length};
+ghost use Rattle.std.specs.Prelude.{◌≡◌, ◌≤◌, eqb};
 ghost use Rattle.octets.specs.Run.{Mask};
 ghost use Rattle.record.specs.Fields.{pending, barred, unregistered_services, cleared, pending_set};
 ghost use Rattle.record.specs.RecordBlock.{record_of, is_record, sound_set, sound_limits, sound_server, sound_roaming, sound_profile};
@@ -101,8 +101,7 @@ impl Record {
     pub const MOST_PROFILE: u32 = 4096;
 
     // The numbers of a block.
-    pub fn read(b: &[u8]) -> Record
-        requires { length b.now ≡ 512 }
+    pub fn read(b: &[u8; 512]) -> Record
         ensures { result ≡ record_of b.now }
     {
         Record {
@@ -156,64 +155,68 @@ impl Record {
     {
         self.bits - self.bits % 2 + 1
     }
-}
 
-// The kind and the block's number; the edition and the issue number are the header's.
-fn is_record(r: Record, k: u32, h: Header) -> bool
-    ensures { result ≡ is_record r k h }
-{
-    (r.kind == Record::KIND) & (r.edition == h.edition) & (r.number == k) & (r.issue == h.issue)
-}
+    // The kind and the block's number; the edition and the issue number are the header's.
+    fn is_record(self, k: u32, h: Header) -> bool
+        ensures { result ≡ is_record self k h }
+    {
+        (self.kind == Record::KIND)
+            & (self.edition == h.edition)
+            & (self.number == k)
+            & (self.issue == h.issue)
+    }
 
-// No set number in the first edition.
-fn set_sound(r: Record) -> bool
-    ensures { result ≡ sound_set r }
-{
-    (r.set == 0) | (r.edition == Record::SECOND_EDITION)
-}
+    // No set number in the first edition.
+    fn set_sound(self) -> bool
+        ensures { result ≡ sound_set self }
+    {
+        (self.set == 0) | (self.edition == Record::SECOND_EDITION)
+    }
 
-// Each number within its limits.
-fn limits(r: Record) -> bool
-    ensures { result ≡ sound_limits r }
-{
-    (r.state <= Record::MOST_STATE)
-        & (r.bits <= Record::MOST_BITS)
-        & (r.mandatory <= Record::MOST_CAPABILITIES)
-        & (r.optional <= Record::MOST_CAPABILITIES)
-        & (Record::LEAST_IDENTITY <= r.public)
-        & (r.public <= Record::MOST_IDENTITY)
-        & (Record::LEAST_IDENTITY <= r.private)
-        & (r.private <= Record::MOST_IDENTITY)
-        & (r.server <= Record::MOST_SERVER)
-        & (r.size <= Record::MOST_PROFILE)
-}
+    // Each number within its limits.
+    fn limits(self) -> bool
+        ensures { result ≡ sound_limits self }
+    {
+        (self.state <= Record::MOST_STATE)
+            & (self.bits <= Record::MOST_BITS)
+            & (self.mandatory <= Record::MOST_CAPABILITIES)
+            & (self.optional <= Record::MOST_CAPABILITIES)
+            & (Record::LEAST_IDENTITY <= self.public)
+            & (self.public <= Record::MOST_IDENTITY)
+            & (Record::LEAST_IDENTITY <= self.private)
+            & (self.private <= Record::MOST_IDENTITY)
+            & (self.server <= Record::MOST_SERVER)
+            & (self.size <= Record::MOST_PROFILE)
+    }
 
-// "State 1 or 2 needs a server name; state 0 has one exactly if pending is set."
-fn server_sound(r: Record) -> bool
-    ensures { result ≡ sound_server r }
-{
-    let pending = r.pending();
-    (r.server == 0) & ((r.state == 0) & !pending) | (0 < r.server) & ((0 < r.state) | pending)
-}
+    // "State 1 or 2 needs a server name; state 0 has one exactly if pending is set."
+    fn server_sound(self) -> bool
+        ensures { result ≡ sound_server self }
+    {
+        let pending = self.pending();
+        (self.server == 0) & ((self.state == 0) & !pending)
+            | (0 < self.server) & ((0 < self.state) | pending)
+    }
 
-// No roaming bit past the last network.
-fn roams(r: Record, networks: u32) -> bool
-    requires { networks ≤ 8 }
-    ensures { result ≡ sound_roaming r networks }
-{
-    (r.roaming as u32) < (1u32 << networks)
-}
+    // No roaming bit past the last network.
+    fn roams(self, networks: u32) -> bool
+        requires { networks ≤ 8 }
+        ensures { result ≡ sound_roaming self networks }
+    {
+        (self.roaming as u32) < (1u32 << networks)
+    }
 
-// The profile within the profile file.
-fn within(r: Record, file: usize) -> bool
-    ensures { result ≡ sound_profile r file }
-{
-    (r.start as usize) + (r.size as usize) <= file
+    // The profile within the profile file.
+    fn within(self, file: usize) -> bool
+        ensures { result ≡ sound_profile self file }
+    {
+        (self.start as usize) + (self.size as usize) <= file
+    }
 }
 
 // The bits that are set past the names, in fields of 128, 128 and 96 bytes: none, where all past them is zero.
-fn past_names(b: &[u8], r: Record, mask: &[u8]) -> usize
-    requires { (length b.now ≡ 512) × (r.public ≤ 128) × (r.private ≤ 128) × (r.server ≤ 96) × Mask mask.now }
+fn past_names(b: &[u8; 512], r: Record, mask: &[u8]) -> usize
+    requires { (r.public ≤ 128) × (r.private ≤ 128) × (r.server ≤ 96) × Mask mask.now }
     ensures { eqb result 0 ≡ past_names b.now r }
 {
     run::set_past(b, Record::PUBLIC_AT, 16, r.public as usize, mask)
@@ -222,8 +225,8 @@ fn past_names(b: &[u8], r: Record, mask: &[u8]) -> usize
 }
 
 // Those that are set past the capabilities.
-fn past_capabilities(b: &[u8], r: Record, mask: &[u8]) -> usize
-    requires { (length b.now ≡ 512) × (r.mandatory ≤ 4) × (r.optional ≤ 4) × Mask mask.now }
+fn past_capabilities(b: &[u8; 512], r: Record, mask: &[u8]) -> usize
+    requires { (r.mandatory ≤ 4) × (r.optional ≤ 4) × Mask mask.now }
     ensures { eqb result 0 ≡ past_capabilities b.now r }
 {
     run::set_past(b, Record::MANDATORY_AT, 2, 4 * r.mandatory as usize, mask)
@@ -231,8 +234,8 @@ fn past_capabilities(b: &[u8], r: Record, mask: &[u8]) -> usize
 }
 
 // "Bytes not named are zero, and so are unused places in a field": all that is set in any of them is one number, and it is tested once.
-fn rest(b: &[u8], r: Record, mask: &[u8]) -> bool
-    requires { (length b.now ≡ 512) × (r.public ≤ 128) × (r.private ≤ 128) × (r.server ≤ 96) × (r.mandatory ≤ 4) × (r.optional ≤ 4)
+fn rest(b: &[u8; 512], r: Record, mask: &[u8]) -> bool
+    requires { (r.public ≤ 128) × (r.private ≤ 128) × (r.server ≤ 96) × (r.mandatory ≤ 4) × (r.optional ≤ 4)
         × Mask mask.now }
     ensures { result ≡ sound_rest b.now r }
 {
@@ -245,20 +248,16 @@ fn rest(b: &[u8], r: Record, mask: &[u8]) -> bool
 }
 
 // Whether a block is sound as record k, under a header and beside a profile file of such a length. Its numbers come first: what is zero goes by them.
-pub fn sound(b: &[u8], k: u32, h: Header, file: usize, mask: &[u8]) -> bool
-    requires { (length b.now ≡ 512) × (h.networks ≤ 8) × Mask mask.now }
+pub fn sound(b: &[u8; 512], k: u32, h: Header, file: usize, mask: &[u8]) -> bool
+    requires { (h.networks ≤ 8) × Mask mask.now }
     ensures { result ≡ sound_record b.now k h file }
 {
     let r = Record::read(b);
-    if is_record(r, k, h)
-        & set_sound(r)
-        & limits(r)
-        & server_sound(r)
-        & roams(r, h.networks as u32)
-        & within(r, file)
-    {
-        (sum::sum_words(b, 128) == 0) & rest(b, r, mask)
-    } else {
-        false
-    }
+    r.is_record(k, h)
+        & r.set_sound()
+        & r.limits()
+        & r.server_sound()
+        & r.roams(h.networks as u32)
+        & r.within(file)
+        && (sum::sum_words(b, 128) == 0) & rest(b, r, mask)
 }

@@ -1,8 +1,6 @@
 -- The refusals that look at no file, and that of a table that is checked: a call's of either server.
-use Rattle.std.specs.Prelude.{ℕ, ◌%◌, List, [], ◌∷◌, Bool, true, false, not, ◌&&◌, ◌||◌, length, get_or, eqb, ltb}
+use Rattle.std.specs.Prelude.{ℕ, ◌%◌, List, [], ◌∷◌, Bool, true, false, not, ◌&&◌, ◌||◌, length, get_or, eqb, ltb, Result, Ok, Err}
 use Rattle.octets.specs.Number.{be24_at}
-use Rattle.blocks.specs.declared.Checked.{Checked}
-use Rattle.blocks.specs.declared.Checked.TheVariants.{Sound, Bad}
 use Rattle.reading.specs.Groups.{rfc3588, rfc6733}
 use Rattle.reading.specs.declared.Terms.{Terms}
 use Rattle.refusals.specs.Trial.{Trial, tried}
@@ -28,15 +26,15 @@ abbrev pub no_request : List ℕ → Bool
 no_request req = ltb (get_or req 4 0) 128
 
 -- 5: "table unsound", with the "first bad block"
-abbrev pub is_bad : Checked → Bool
-is_bad (Sound count) = false
-is_bad (Bad block) = true
+abbrev pub is_bad : Result ℕ ℕ → Bool
+is_bad (Ok count) = false
+is_bad (Err block) = true
 
-abbrev pub check_value : Checked → ℕ
-check_value (Sound count) = count
-check_value (Bad block) = block
+abbrev pub check_value : Result ℕ ℕ → ℕ
+check_value (Ok count) = count
+check_value (Err block) = block
 
-abbrev pub unsound : Checked → Trial
+abbrev pub unsound : Result ℕ ℕ → Trial
 unsound c = record { holds = is_bad c; number = 5; besides = check_value c }
 
 -- "Five refusals of the call" and the twelfth, in their order, with what each returns besides: those that look at no file

@@ -1,3 +1,4 @@
 pub mod Early
+pub mod Numbers
 pub mod Passed
 pub mod Trial

@@ -1,23 +1,55 @@
 #![tactic(auto)]
-// The refusals of a call that look at no file: what a request and a buffer must be.
-ghost use Rattle.std.specs.Prelude.{◌≡◌, ◌≤◌, length};
+// The refusals of a call by their numbers, and those that look at no file: what a request and a buffer must be.
+ghost use Rattle.std.specs.Prelude.{◌≡◌, ◌≤◌, length, IfErr};
 ghost use Rattle.refusals.specs.Early.{wrong_length, early};
+ghost use Rattle.refusals.specs.Numbers.{number_of, value_of, number_tried};
 
 use diameter::message;
 use reading::Terms;
 
-// The refusals, by their numbers; 5 is a table's that was checked.
-const UNKNOWN_PEER: u16 = 12;
+// A refusal of a call. Of an unsound table the check blames a block.
+#[derive(Clone, Copy, PartialEq, Eq)]
+pub enum Refusal {
+    UnknownPeer,
+    SmallBuffer,
+    WrongSize,
+    WrongLength,
+    NoRequest,
+    Unsound(u32),
+    UnsoundVectors,
+}
 
-const SMALL_BUFFER: u16 = 1;
-
-const WRONG_SIZE: u16 = 2;
-
-const WRONG_LENGTH: u16 = 3;
-
-const NO_REQUEST: u16 = 4;
-
+// The document's numbers of the two that checks answer.
 pub const UNSOUND: u16 = 5;
+
+pub const UNSOUND_VECTORS: u16 = 6;
+
+impl Refusal {
+    // Its number in the document.
+    pub fn number(self) -> u16
+        ensures { result ≡ number_of self }
+    {
+        match self {
+            Refusal::UnknownPeer => 12,
+            Refusal::SmallBuffer => 1,
+            Refusal::WrongSize => 2,
+            Refusal::WrongLength => 3,
+            Refusal::NoRequest => 4,
+            Refusal::Unsound(_) => UNSOUND,
+            Refusal::UnsoundVectors => UNSOUND_VECTORS,
+        }
+    }
+
+    // What a call returns besides: "5 .. with the first bad block".
+    pub fn value(self) -> u32
+        ensures { result ≡ value_of self }
+    {
+        match self {
+            Refusal::Unsound(block) => block,
+            _ => 0,
+        }
+    }
+}
 
 // "answer buffer under 36,864 bytes"; "request under 20 or over 16,384 bytes"
 const ROOM: usize = 36864;
@@ -34,24 +66,25 @@ fn wrong_length(req: &[u8]) -> bool
     (octets::number::be24(req, message::LENGTH_AT) != req.len()) | (req.len() % 4 != 0)
 }
 
-// The number of the first refusal that holds, of the five that look at no table; 0 if none does.
-pub fn early(terms: Terms, req: &[u8], out: &[u8]) -> u16
-    ensures { result ≡ early terms req.now out.now }
+// The first refusal that holds, of the five that look at no table.
+pub fn early(terms: Terms, req: &[u8], out: &[u8]) -> Result<(), Refusal>
+    ensures number { number_tried result ≡ early terms req.now out.now }
+    ensures value { IfErr result (λ r. value_of r ≡ 0) }
 {
     if (terms.peer != reading::RFC_3588) & (terms.peer != reading::RFC_6733) {
-        return UNKNOWN_PEER;
+        return Err(Refusal::UnknownPeer);
     }
     if out.len() < ROOM {
-        return SMALL_BUFFER;
+        return Err(Refusal::SmallBuffer);
     }
     if (req.len() < LEAST) | (MOST < req.len()) {
-        return WRONG_SIZE;
+        return Err(Refusal::WrongSize);
     }
     if wrong_length(req) {
-        return WRONG_LENGTH;
+        return Err(Refusal::WrongLength);
     }
     if req[message::FLAGS_AT] < message::R_BIT {
-        return NO_REQUEST;
+        return Err(Refusal::NoRequest);
     }
-    0
+    Ok(())
 }

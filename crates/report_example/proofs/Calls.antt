@@ -1,8 +1,7 @@
 -- A small month: where is `a`, its removal, where is it now, an answer that strayed into the file, and 3 bytes. The calls, computed one by one.
+use Rattle.std.specs.Prelude.{Result, Ok}
 use Rattle.octets.specs.Standard.{ℕ, ◌≡◌, refl, sym, ap, ◌∙◌, List, [], ◌∷◌, ◌++◌, false, length, set, ltb, lit≤}
 use Rattle.octets.specs.Run.{over}
-use Rattle.blocks.specs.declared.Checked.{Checked}
-use Rattle.blocks.specs.declared.Checked.TheVariants.{Sound}
 use Rattle.table.specs.Check.{check_table}
 use Rattle.rewrite.specs.Change.{differ, altered_up_to}
 use Rattle.diameter.specs.Put.{All}
@@ -11,7 +10,7 @@ use Rattle.pen.specs.Bytes.{vendor_bytes, number_bytes}
 use Rattle.pen.specs.Groups.{experimental}
 use Rattle.reading.specs.declared.Outcome.{Outcome}
 use Rattle.reading.specs.declared.Outcome.TheVariants.{Base, Experimental}
-use Rattle.counting.specs.declared.Event.{Event}
+use Rattle.counting.specs.Event.{Event}
 use Rattle.requests.specs.Request.{under_cx}
 use Rattle.calling.specs.Call.{Answered, Refused}
 use Rattle.calling.specs.Lent.{Lent, lent}
@@ -23,7 +22,7 @@ use Rattle.report_numbers.specs.File.{OneRequest, end_to_end}
 use Rattle.demands.proofs.Demands.{demand_2_room}
 use Rattle.worked_examples.proofs.Computed.{come, roomy, no_vectors, registered_sound, unregistered_sound}
 use Rattle.worked_examples.proofs.Sample.{room, request, reply, answer, common, assignment, one, s, opened}
-use Rattle.counting.specs.declared.Event.TheVariants as event
+use Rattle.std.specs.Prelude.{Err}
 
 -- a LIR and a SAR of type 5 for `a`; a message with the R bit clear
 unfoldable pub lir : List ℕ
@@ -72,11 +71,11 @@ unfoldable pub all : ℕ
 unfolding opened lir removal strayed here gone located removed sought altered_up_to differ
 all = 0
 
-pub sound_here : check_table here 0 ≡ Sound 1
+pub sound_here : check_table here 0 ≡ Ok 1
 unfolding here
 sound_here = registered_sound
 
-pub sound_gone : check_table gone 0 ≡ Sound 1
+pub sound_gone : check_table gone 0 ≡ Ok 1
 unfolding gone
 sound_gone = unregistered_sound
 
@@ -99,7 +98,7 @@ abbrev pub comes : ℕ → List ℕ → List ℕ → Served
 comes length table buffer = leaves length table [] buffer
 
 -- a call leaves a buffer of the least room as long as it was
-pub stays : (x : Lent) (length : ℕ) (table vectors buffer : List ℕ) → serve_table x ≡ leaves length table vectors buffer → check_of x ≡ Sound 1
+pub stays : (x : Lent) (length : ℕ) (table vectors buffer : List ℕ) → serve_table x ≡ leaves length table vectors buffer → check_of x ≡ Ok 1
     → small_buffer x.buffer ≡ false → small_buffer buffer ≡ false
 stays x length table vectors buffer e sound h =
     ap (λ (y : Served). small_buffer y.buffer) (sym (serve_sound x 1 sound ∙ e)) ∙ ap (λ (n : ℕ). ltb n 36864) (demand_2_room x) ∙ h
@@ -131,17 +130,17 @@ strayed_comes = come (lending strayed gone sought) sought_roomy sound_gone no_ve
 
 -- and how each is counted
 abbrev pub counts : ℕ → Outcome → ℕ → ℕ → Event
-counts command result length altered = event.Answered (record { command = command; result = result; length = length; altered = altered })
+counts command result length altered = Ok (record { command = command; result = result; length = length; altered = altered })
 
 -- from what the call comes to, so that it is not computed again
-pub counted_from : (x : Lent) (length : ℕ) (table vectors buffer : List ℕ) → serve_table x ≡ leaves length table vectors buffer → check_of x ≡ Sound 1
+pub counted_from : (x : Lent) (length : ℕ) (table vectors buffer : List ℕ) → serve_table x ≡ leaves length table vectors buffer → check_of x ≡ Ok 1
     → event_of x ≡ counts (command_of x.request) (decision x 1).given.verdict.result length (altered_up_to x.table table 1)
 unfolding event_of
 counted_from x length table vectors buffer e f =
     ap (λ (y : Served). event_by x y.call) e
     ∙ ap (λ (n : ℕ). counts (command_of x.request) (result_of x) length n)
     (ap (λ (y : Served). altered_up_to x.table y.table (check_value (check_of x))) e)
-    ∙ ap (λ (c : Checked). counts (command_of x.request) (decision x (check_value c)).given.verdict.result length
+    ∙ ap (λ (c : Result ℕ ℕ). counts (command_of x.request) (decision x (check_value c)).given.verdict.result length
     (altered_up_to x.table table (check_value c))) f
 
 pub located_counts : event_of (lending lir here room) ≡ counts 302 (Base 2001) 132 0
@@ -156,6 +155,6 @@ pub sought_counts : event_of (lending lir gone removed) ≡ counts 302 (Experime
 unfolding all
 sought_counts = counted_from (lending lir gone removed) 136 gone [] sought sought_comes sound_gone
 
-pub strayed_counts : event_of (lending strayed gone sought) ≡ event.Refused 4
+pub strayed_counts : event_of (lending strayed gone sought) ≡ Err 4
 unfolding event_of
 strayed_counts = rw strayed_comes

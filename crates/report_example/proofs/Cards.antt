@@ -1,15 +1,15 @@
 -- A month of cards: two MARs of one private identity, each for one vector, over a file of one. The first is sent it and stores the server name, and for the
 -- second none is left: table and vectors are carried along.
+use Rattle.std.specs.Prelude.{Ok}
 use Rattle.octets.specs.Standard.{ℕ, ◌≡◌, refl, ap, ◌∙◌, List, [], ◌∷◌, false, arith, lit≤}
 use Rattle.requests.specs.Request.{under_cx}
 use Rattle.octets.specs.Run.{over}
-use Rattle.blocks.specs.declared.Checked.TheVariants.{Sound}
 use Rattle.table.specs.Check.{check_table}
 use Rattle.vectors.specs.VectorFile.{check_vectors}
 use Rattle.diameter.specs.Put.{All}
 use Rattle.pen.specs.Bytes.{number_bytes}
 use Rattle.reading.specs.declared.Outcome.TheVariants.{Base}
-use Rattle.counting.specs.declared.Event.{Event}
+use Rattle.counting.specs.Event.{Event}
 use Rattle.calling.specs.Lent.{Lent, lent, table_only}
 use Rattle.calling.proofs.Areas.{only_sound}
 use Rattle.refusals.specs.Early.{small_buffer}
@@ -59,19 +59,19 @@ unfoldable cards_all : ℕ
 unfolding all mar fresh used idle named sent denied
 cards_all = 0
 
-pub idle_sound : check_table idle 0 ≡ Sound 1
+pub idle_sound : check_table idle 0 ≡ Ok 1
 unfolding idle
 idle_sound = unregistered_sound
 
-pub named_sound : check_table named 0 ≡ Sound 1
+pub named_sound : check_table named 0 ≡ Ok 1
 unfolding cards_all
 named_sound = refl
 
-fresh_sound : check_vectors fresh ≡ Sound 1
+fresh_sound : check_vectors fresh ≡ Ok 1
 unfolding cards_all
 fresh_sound = refl
 
-used_sound : check_vectors used ≡ Sound 1
+used_sound : check_vectors used ≡ Ok 1
 unfolding cards_all
 used_sound = refl
 

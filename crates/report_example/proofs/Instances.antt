@@ -1,4 +1,5 @@
 -- Each theorem of the numbers has an instance: its hypotheses are met by the small month, or by a part of it.
+use Rattle.std.specs.Prelude.{Result, Ok}
 use Rattle.octets.specs.Standard.{ℕ, ◌+◌, ◌%◌, ◌^◌, ◌≤◌, ◌<◌, max, List, [], ◌∷◌, ◌++◌, ◌≡◌, refl, sym, ap, ◌∙◌, inl, inr, arith, length, get_or, take}
 use Rattle.octets.specs.Standard.{drop, drop_at, lit≤, lit<}
 use Rattle.octets.specs.Run.{over}
@@ -6,14 +7,12 @@ use Rattle.blocks.specs.Blocks.{block_of}
 use Rattle.table.specs.Area.{size_in, table_in, check_area}
 use Rattle.table.specs.Check.{check_table}
 use Rattle.table.proofs.Areas.{in_all, read_front, sound_size_in, check_exact}
-use Rattle.blocks.specs.declared.Checked.{Checked}
-use Rattle.blocks.specs.declared.Checked.TheVariants.{Sound}
 use Rattle.reading.specs.declared.Outcome.TheVariants.{Base, Experimental}
 use Rattle.reading.specs.Verdicts.{number_of}
 use Rattle.counting.specs.Results.{column_of}
 use Rattle.counting.specs.Counting.{listed, Listed}
 use Rattle.counting.specs.Words.{long_bytes}
-use Rattle.counting.specs.declared.Event.{Event}
+use Rattle.counting.specs.Event.{Event}
 use Rattle.requests.specs.Request.{under_cx}
 use Rattle.calling.specs.Lent.{Lent, lent, asking, holding, table_only}
 use Rattle.refusals.specs.Early.{check_value}
@@ -151,8 +150,8 @@ taking_only = only_sound taking 1 sound_here
 
 both_first : column_of (result_of alone) ≡ column_of (result_of taking)
 unfolding all alone taking counting
-both_first = ap (λ (c : Checked). column_of (decision alone (check_value c)).given.verdict.result) sound_here
-    ∙ sym (ap (λ (c : Checked). column_of (decision taking (check_value c)).given.verdict.result) sound_here)
+both_first = ap (λ (c : Result ℕ ℕ). column_of (decision alone (check_value c)).given.verdict.result) sound_here
+    ∙ sym (ap (λ (c : Result ℕ ℕ). column_of (decision taking (check_value c)).given.verdict.result) sound_here)
 
 met_own_column : result_of (table_only alone) ≡ result_of (table_only taking)
 met_own_column =
@@ -279,10 +278,10 @@ met_both_largest = numbers.report_both_largest begun rest area enough met_0 area
 long_here : length here ≡ size_in here
 long_here = sound_size_in here 0 1 sound_here
 
-area_sound : check_area here 0 ≡ Sound 1
+area_sound : check_area here 0 ≡ Ok 1
 area_sound = check_exact here 0 long_here ∙ sound_here
 
-met_sound : check_area (reported month area).table 0 ≡ Sound 1
+met_sound : check_area (reported month area).table 0 ≡ Ok 1
 unfolding month
 met_sound = numbers.report_sound month area ∙ area_sound
 
@@ -349,7 +348,7 @@ working = holding month (here ++ behind)
 table_in_lem : table_in (here ++ behind) ≡ here
 table_in_lem = read_front here behind long_here
 
-working_sound : check_area (here ++ behind) 0 ≡ Sound 1
+working_sound : check_area (here ++ behind) 0 ≡ Ok 1
 unfolding check_area
 working_sound = ap (λ (t : List ℕ). check_table t 0) table_in_lem ∙ sound_here
 
@@ -389,7 +388,7 @@ met_working_word : word_in (reported working area).area 3 ≡ 136
 unfolding counting
 met_working_word = numbers.report_word working area enough 3 (omega arith) (omega arith) ∙ rw (working_events, month_events)
 
-met_working_sound : check_area (reported working area).table 0 ≡ Sound 1
+met_working_sound : check_area (reported working area).table 0 ≡ Ok 1
 unfolding working month
 met_working_sound = numbers.report_sound working area ∙ working_sound
 

@@ -4,7 +4,7 @@ use Rattle.octets.specs.Run.{over}
 use Rattle.counting.specs.Results.{base_results, experimental_results, index_in, command_row, column_of}
 use Rattle.counting.specs.Counted.{cell_of, how_many, altered_in, largest_in, number_at, word_at, values_below, counts_of}
 use Rattle.counting.specs.Words.{long_bytes, words_bytes}
-use Rattle.counting.specs.declared.Event.{Event}
+use Rattle.counting.specs.Event.{Event}
 use Rattle.reading.specs.declared.Outcome.TheVariants.{Base, Experimental}
 use Rattle.requests.specs.Request.{under_cx}
 use Rattle.calling.specs.Lent.{Lent, lent, table_only}
@@ -20,7 +20,7 @@ use Rattle.report_numbers.proofs.Numbers.{report_7_broken, report_over}
 use Rattle.report_example.proofs.Calls.{lir, removal, strayed, messages, scrap, file, here, gone, located, removed, sought, month, each, sound_here}
 use Rattle.report_example.proofs.Calls.{counts, located_comes, removed_comes, sought_comes, strayed_comes, all, located_counts, removed_counts}
 use Rattle.report_example.proofs.Calls.{sought_counts, strayed_counts}
-use Rattle.counting.specs.declared.Event.TheVariants as event
+use Rattle.std.specs.Prelude.{Err}
 
 -- an area of one byte more than the report
 unfoldable pub area : List ℕ
@@ -75,7 +75,7 @@ unfolding next
 after_strayed = rw strayed_comes
 
 abbrev pub events : List Event
-events = counts 302 (Base 2001) 132 0 ∷ counts 301 (Base 2001) 116 1 ∷ counts 302 (Experimental 5003) 136 0 ∷ event.Refused 4 ∷ []
+events = counts 302 (Base 2001) 132 0 ∷ counts 301 (Base 2001) 116 1 ∷ counts 302 (Experimental 5003) 136 0 ∷ Err 4 ∷ []
 
 month_row : row month (requests_of month) ≡ events
 unfolding row month

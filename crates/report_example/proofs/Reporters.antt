@@ -1,15 +1,15 @@
 -- Wrong reporters: each is a function here, and over the small month, or over that of the cards, its outcome does not meet the promise.
+use Rattle.std.specs.Prelude.{Ok}
 use Rattle.octets.specs.Standard.{ℕ, ◌^◌, ◌≤◌, ◌<◌, ◌≡◌, refl, sym, ap, ◌∙◌, ◌≢◌, false, List, [], ◌∷◌, ◌++◌, arith, length, get_or, set, length-set}
 use Rattle.octets.specs.Standard.{get_or-set_other}
 use Rattle.octets.specs.Run.{over}
-use Rattle.blocks.specs.declared.Checked.TheVariants.{Sound}
 use Rattle.diameter.specs.Message.{command_of}
 use Rattle.pen.specs.Bytes.{number_bytes}
 use Rattle.reading.specs.declared.Outcome.{Outcome}
 use Rattle.reading.specs.declared.Outcome.TheVariants.{Base}
 use Rattle.counting.specs.Counted.{word_at, counts_of}
 use Rattle.counting.specs.Words.{words_bytes}
-use Rattle.counting.specs.declared.Event.{Event}
+use Rattle.counting.specs.Event.{Event}
 use Rattle.counting.proofs.Counts.{counts_length, counts_at}
 use Rattle.requests.specs.Request.{under_cx}
 use Rattle.calling.specs.Lent.{Lent, asking, lent, table_only}
@@ -31,7 +31,7 @@ use Rattle.report_example.proofs.Calls.{lir, removal, strayed, here, gone, month
 use Rattle.report_example.proofs.Cards.{mar, fresh, used, idle, named, sent, cards, idle_sound, named_sound}
 use Rattle.report_example.proofs.Cards.{cards_requests, cards_events, cards_vectors, sent_comes, sent_counts, again_counts}
 use Rattle.report_example.proofs.Month.{area, enough, month_requests, month_events, month_number, month_table, month_only, counting}
-use Rattle.counting.specs.declared.Event.TheVariants as event
+use Rattle.std.specs.Prelude.{Err}
 
 -- what a report leaves
 record Left : Type 0 where
@@ -96,14 +96,14 @@ removed_apart =
     counted_from (lending removal here room) 116 gone [] (over (answer (number_bytes 268 2001) []) room)
     (come (lending removal here room) roomy sound_here no_vectors refl) sound_here
 
-strayed_apart : event_of (lending strayed here room) ≡ event.Refused 4
+strayed_apart : event_of (lending strayed here room) ≡ Err 4
 unfolding all event_of
 strayed_apart =
     let x = lending strayed here room in
-    ap (λ (y : Served). event_by x y.call) (come x {y = known false (Sound 1) (Sound 0) x} roomy sound_here no_vectors refl)
+    ap (λ (y : Served). event_by x y.call) (come x {y = known false (Ok 1) (Ok 0) x} roomy sound_here no_vectors refl)
 
 apart_month : apart month (requests_of month)
-    ≡ counts 302 (Base 2001) 132 0 ∷ counts 301 (Base 2001) 116 1 ∷ counts 302 (Base 2001) 132 0 ∷ event.Refused 4 ∷ []
+    ≡ counts 302 (Base 2001) 132 0 ∷ counts 301 (Base 2001) 116 1 ∷ counts 302 (Base 2001) 132 0 ∷ Err 4 ∷ []
 unfolding apart month
 apart_month =
     ap (apart month) month_requests
@@ -170,8 +170,8 @@ unspending_fails f e p =
 
 -- 2. one that counts a refused request under its command, as if it were answered by some result
 under : Outcome → List ℕ → Event → Event
-under o p (event.Answered e) = event.Answered e
-under o p (event.Refused n) = event.Answered (record { command = command_of p; result = o; length = 0; altered = 0 })
+under o p (Ok e) = Ok e
+under o p (Err n) = Ok (record { command = command_of p; result = o; length = 0; altered = 0 })
 
 under_all : Outcome → List (List ℕ) → List Event → List Event
 under_all o [] es = []

@@ -4,7 +4,7 @@ use Rattle.octets.specs.Standard.{length, leb, leb-true, leb-false}
 use Rattle.rewrite.specs.Change.{altered_up_to}
 use Rattle.deciding.proofs.Room.{answer_most}
 use Rattle.counting.specs.Counted.{altered_in, largest_in}
-use Rattle.counting.specs.declared.Event.{Event}
+use Rattle.counting.specs.Event.{Event}
 use Rattle.counting.proofs.Numbers.{largest_append}
 use Rattle.rewrite.proofs.Counts.{altered_none, altered_most}
 use Rattle.calling.specs.Call.{Call, Answered, Refused}

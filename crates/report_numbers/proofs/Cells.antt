@@ -9,8 +9,8 @@ use Rattle.counting.specs.Results.{base_results, experimental_results, index_in,
 use Rattle.counting.specs.Counting.{listed, Listed, Fits, AllFit}
 use Rattle.counting.specs.Counted.{cell_of, stands_in, how_many, number_at}
 use Rattle.counting.specs.Layout.{refusal_word, cell_word}
-use Rattle.counting.specs.declared.Event.{Event}
-use Rattle.counting.specs.declared.Event.TheVariants.{Answered, Refused}
+use Rattle.counting.specs.Event.{Event}
+use Rattle.std.specs.Prelude.{Ok, Err}
 use Rattle.counting.proofs.Columns.{listed_column}
 use Rattle.counting.proofs.Numbers.{number_cell}
 use Rattle.report_numbers.specs.Turns.{refused_by, answered_in}
@@ -27,14 +27,14 @@ same_test a b false f g = ne_eqb a b (λ e. let z : false ≡ true = f e in fals
 
 refused_there : (n : ℕ) → n ≤ 15 → (e : Event) → Fits e → stands_in (refusal_word n) e ≡ refused_by n e
 unfolding cell_of
-refused_there n h (Answered e) f =
+refused_there n h (Ok e) f =
     let other : cell_word (command_row e.command) (column_of e.result) ≡ refusal_word n → ⊥ = λ q. omega (arith, q) in
     ne_eqb (cell_word (command_row e.command) (column_of e.result)) (refusal_word n) other
-refused_there n h (Refused m) f = same_test (refusal_word m) (refusal_word n) (eqb m n) (λ q. eq-eqb m n (omega (arith, q))) (λ q. omega (arith, eqb-true m n q))
+refused_there n h (Err m) f = same_test (refusal_word m) (refusal_word n) (eqb m n) (λ q. eq-eqb m n (omega (arith, q))) (λ q. omega (arith, eqb-true m n q))
 
 answered_there : (r c : ℕ) → c < 25 → (e : Event) → Fits e → stands_in (cell_word r c) e ≡ answered_in r c e
 unfolding cell_of
-answered_there r c h (Answered e) f =
+answered_there r c h (Ok e) f =
     let row = command_row e.command in
     let column = column_of e.result in
     let l : column < 25 = listed_column e.result f in
@@ -46,7 +46,7 @@ answered_there r c h (Answered e) f =
       eqb-true row r (and_left (eqb row r) (eqb column c) q),
       eqb-true column c (and_right (eqb row r) (eqb column c) q),
     ))
-answered_there r c h (Refused m) f =
+answered_there r c h (Err m) f =
     let other : refusal_word m ≡ cell_word r c → ⊥ = λ q. omega (arith, q, f.1) in
     ne_eqb (refusal_word m) (cell_word r c) other
 

@@ -3,7 +3,7 @@ use Rattle.octets.specs.Standard.{ℕ, ◌+◌, ◌%◌, ◌^◌, ◌≤◌, ◌
 use Rattle.octets.specs.Standard.{length, length-append, eqb, eq-eqb, eqb-true}
 use Rattle.counting.specs.Counted.{largest_in, number_at}
 use Rattle.counting.specs.Layout.{stop_word, largest_word}
-use Rattle.counting.specs.declared.Event.{Event}
+use Rattle.counting.specs.Event.{Event}
 use Rattle.counting.proofs.Numbers.{number_append, largest_append, word_other}
 use Rattle.calling.specs.Lent.{Lent, asking, table_only, put_back}
 use Rattle.calling.specs.Serve.{serve_table}

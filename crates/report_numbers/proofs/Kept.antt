@@ -1,15 +1,15 @@
 -- Demand 2 over a row of calls: what stays sound, and what stays as it came.
+use Rattle.std.specs.Prelude.{Ok, Err}
 use Rattle.octets.specs.Standard.{ℕ, ◌+◌, ◌≤◌, ◌<◌, List, [], ◌∷◌, Bool, true, false, not, ◌||◌, ◌&&◌, or-true, true≢false, ◌≡◌, refl, sym, ap, ◌∙◌, arith}
 use Rattle.octets.specs.Standard.{length, get_or, eqb, ltb, eqb-false, lt-ltb, ltb-true, ltb-false}
 use Rattle.blocks.specs.Blocks.{block_of}
 use Rattle.table.specs.Check.{check_table}
-use Rattle.blocks.specs.declared.Checked.TheVariants.{Sound, Bad}
 use Rattle.vectors.specs.VectorFile.{check_vectors}
 use Rattle.rewrite.specs.Keeps.{alterable}
 use Rattle.diameter.specs.Message.{command_of}
 use Rattle.refusals.proofs.Passing.{neither}
 use Rattle.counting.specs.Counted.{how_many}
-use Rattle.counting.specs.declared.Event.{Event}
+use Rattle.counting.specs.Event.{Event}
 use Rattle.calling.specs.Lent.{Lent, asking}
 use Rattle.refusals.specs.Trial.{any_holds}
 use Rattle.refusals.specs.Early.{unknown_peer, small_buffer, check_value}
@@ -39,7 +39,7 @@ left_vectors x [] = refl
 left_vectors x (p ∷ ps) = left_vectors (next x p) ps ∙ vectors_checked (asking x p)
 
 -- and so do the bytes of a sound table that no call writes
-pub left_bytes : (x : Lent) (ps : List (List ℕ)) (count : ℕ) → check_of x ≡ Sound count → (k i : ℕ) → k ≤ count → i < 512 → alterable i ≡ false
+pub left_bytes : (x : Lent) (ps : List (List ℕ)) (count : ℕ) → check_of x ≡ Ok count → (k i : ℕ) → k ≤ count → i < 512 → alterable i ≡ false
     → get_or (block_of (left x ps).table k) i 0 ≡ get_or (block_of x.table k) i 0
 unfolding left next
 left_bytes x [] count sound k i h l e = refl
@@ -66,11 +66,11 @@ module _ (x : Lent) where
   pub short_refused : length x.buffer < 36864 → (p : List ℕ) → turned_away (asking x p) ≡ true
   short_refused h = small_refused (lt-ltb (length x.buffer) 36864 h)
 
-  pub table_refused : (k : ℕ) → check_of x ≡ Bad k → (p : List ℕ) → turned_away (asking x p) ≡ true
+  pub table_refused : (k : ℕ) → check_of x ≡ Err k → (p : List ℕ) → turned_away (asking x p) ≡ true
   unfolding any_holds
   table_refused k e p = simp (e, or-true)
 
-  pub vectors_refused : (k : ℕ) → check_vectors x.vectors ≡ Bad k → (p : List ℕ) → turned_away (asking x p) ≡ true
+  pub vectors_refused : (k : ℕ) → check_vectors x.vectors ≡ Err k → (p : List ℕ) → turned_away (asking x p) ≡ true
   unfolding any_holds
   vectors_refused k e p = simp (e, or-true)
 
@@ -91,7 +91,7 @@ idle_kept x q = go (turned_away x) refl
     count : ℕ
     count = check_value (check_of x)
 
-    quiet : (y z : Bool) → succeeds (result_of x) ≡ y → (eqb (command_of x.request) 301 || eqb (command_of x.request) 303) ≡ z → check_of x ≡ Sound count
+    quiet : (y z : Bool) → succeeds (result_of x) ≡ y → (eqb (command_of x.request) 301 || eqb (command_of x.request) 303) ≡ z → check_of x ≡ Ok count
         → (not y || not z) ≡ true → Left x
     quiet false z e f s h = failure_kept x count s e
     quiet true false e f s h =
@@ -99,7 +99,7 @@ idle_kept x q = go (turned_away x) refl
         question_kept x (eqb-false (command_of x.request) 301 n.0) (eqb-false (command_of x.request) 303 n.1)
     quiet true true e f s h = absurd (true≢false (sym h))
 
-    said : turned_away x ≡ false → check_of x ≡ Sound count
+    said : turned_away x ≡ false → check_of x ≡ Ok count
         → (not (succeeds (result_of x)) || not (eqb (command_of x.request) 301 || eqb (command_of x.request) 303)) ≡ true
     said e s = rw (answered_is x count s e) at q
 
@@ -149,7 +149,7 @@ module _ (x : Lent) (area : List ℕ) where
   pub report_vectors : check_vectors (reported_table x area).vectors ≡ check_vectors x.vectors
   report_vectors = report_by (λ t v o. check_vectors v ≡ check_vectors x.vectors) refl (left_vectors x (requests_of x))
 
-  pub report_bytes : (count : ℕ) → check_of x ≡ Sound count → (k i : ℕ) → k ≤ count → i < 512 → alterable i ≡ false
+  pub report_bytes : (count : ℕ) → check_of x ≡ Ok count → (k i : ℕ) → k ≤ count → i < 512 → alterable i ≡ false
       → get_or (block_of (reported_table x area).table k) i 0 ≡ get_or (block_of x.table k) i 0
   report_bytes count sound k i h l e =
       report_by (λ t v o. get_or (block_of t k) i 0 ≡ get_or (block_of x.table k) i 0) refl (left_bytes x (requests_of x) count sound k i h l e)

@@ -3,17 +3,17 @@
 -- the table there, by the count in block 0, and `table_only x` is what is lent, with that table alone.
 -- What the other words below mean is in reporting/specs/Row (`serve` over the requests in turn), specs/File (a file of requests), specs/Turns (the calls) and
 -- specs/Area (the words read back).
+use Rattle.std.specs.Prelude.{Ok, Err}
 use Rattle.octets.specs.Standard.{ℕ, ◌+◌, ◌*◌, ◌%◌, ◌^◌, ◌≤◌, ◌<◌, max, List, [], ◌∷◌, ◌++◌, true, false, ◌≡◌, refl, sym, ap, ◌∙◌, ◌⊎◌, inl, inr, ◌≢◌}
 use Rattle.octets.specs.Standard.{arith, length, get_or, take, drop, eqb, ltb}
 use Rattle.blocks.specs.Blocks.{block_of}
 use Rattle.table.specs.Area.{table_in, check_area}
-use Rattle.blocks.specs.declared.Checked.TheVariants.{Sound, Bad}
 use Rattle.vectors.specs.VectorFile.{check_vectors}
 use Rattle.rewrite.specs.Keeps.{alterable}
 use Rattle.reading.specs.declared.Outcome.{Outcome}
 use Rattle.diameter.specs.Put.{All}
 use Rattle.counting.specs.Results.{column_of}
-use Rattle.counting.specs.declared.Event.{Event}
+use Rattle.counting.specs.Event.{Event}
 use Rattle.counting.specs.Counting.{Listed}
 use Rattle.counting.specs.Counted.{how_many, number_at, word_at}
 use Rattle.counting.specs.Layout.{read_word, stop_word, altered_word, largest_word, answered_word, refusal_word, cell_word}
@@ -257,17 +257,17 @@ module _ (x : Lent) (a : List ℕ) where
 
   -- In an area with a sound table at its front only state, pending, server name and check word of records change, in every block of it (that those past the
   -- count stay whole says `report_behind`).
-  pub report_kept : (count : ℕ) → check_area x.table (length x.profile) ≡ Sound count → (k i : ℕ) → i < 512 → alterable i ≡ false
+  pub report_kept : (count : ℕ) → check_area x.table (length x.profile) ≡ Ok count → (k i : ℕ) → i < 512 → alterable i ≡ false
       → get_or (block_of (reported x a).table k) i 0 ≡ get_or (block_of x.table k) i 0
   report_kept = over.over_bytes x a
 
   -- Over an unsound table or an unsound vector file, or with a short buffer, every request is refused, and the whole area, the vectors and the buffer are left
   -- as they came.
-  pub report_unsound : (k : ℕ) → check_area x.table (length x.profile) ≡ Bad k
+  pub report_unsound : (k : ℕ) → check_area x.table (length x.profile) ≡ Err k
       → ((reported x a).table ≡ x.table) × ((reported x a).vectors ≡ x.vectors) × ((reported x a).buffer ≡ x.buffer)
   report_unsound k e = over.over_refused x a (kept.table_refused (table_only x) k (sym (check_in_lem x) ∙ e))
 
-  pub report_unsound_vectors : (k : ℕ) → check_vectors x.vectors ≡ Bad k
+  pub report_unsound_vectors : (k : ℕ) → check_vectors x.vectors ≡ Err k
       → ((reported x a).table ≡ x.table) × ((reported x a).vectors ≡ x.vectors) × ((reported x a).buffer ≡ x.buffer)
   report_unsound_vectors k e = over.over_refused x a (kept.vectors_refused (table_only x) k e)
 

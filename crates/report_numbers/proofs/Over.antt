@@ -1,15 +1,15 @@
 -- The report over an area: what holds of the report over the table alone, said of the area in which the table is lent.
+use Rattle.std.specs.Prelude.{Ok}
 use Rattle.octets.specs.Standard.{ℕ, ◌+◌, ◌-◌, ◌*◌, ◌%◌, ◌^◌, ◌≤◌, ◌<◌, max, Bool, true, false, List, [], ◌∷◌, ◌++◌, ◌≡◌, refl, sym, ap, ◌∙◌, ◌⊎◌, inl, inr}
 use Rattle.octets.specs.Standard.{◌≢◌, arith, leb, leb-true, leb-false, length, get_or, set, take, drop, drop-drop, length-append}
 use Rattle.blocks.specs.Blocks.{block_of}
-use Rattle.blocks.specs.declared.Checked.TheVariants.{Sound}
 use Rattle.table.specs.Area.{table_in, check_area}
 use Rattle.table.specs.Check.{check_table}
 use Rattle.table.proofs.Sound.{table_says}
 use Rattle.rewrite.specs.Keeps.{alterable}
 use Rattle.counting.specs.Counted.{counts_of}
 use Rattle.counting.specs.Layout.{stop_word, largest_word}
-use Rattle.counting.specs.declared.Event.{Event}
+use Rattle.counting.specs.Event.{Event}
 use Rattle.calling.specs.Lent.{Lent, lent, asking, table_only, put_back}
 use Rattle.calling.specs.Serve.{serve_table, serve}
 use Rattle.calling.proofs.Areas.{put_same}
@@ -109,12 +109,12 @@ module _ (x : Lent) (area : List ℕ) where
       (over_stays k.0, k.1, altered_over_lem x (requests_of x) ∙ k.2)
 
   -- every block: one within the count, and one past it
-  module _ (count : ℕ) (sound : check_area x.table (length x.profile) ≡ Sound count) where
-    of_table : check_table (table_in x.table) (length x.profile) ≡ Sound count
+  module _ (count : ℕ) (sound : check_area x.table (length x.profile) ≡ Ok count) where
+    of_table : check_table (table_in x.table) (length x.profile) ≡ Ok count
     unfolding check_area
     of_table = sound
 
-    after : check_table (table_in (reported x area).table) (length x.profile) ≡ Sound count
+    after : check_table (table_in (reported x area).table) (length x.profile) ≡ Ok count
     unfolding check_area
     after = over_checked ∙ sound
 

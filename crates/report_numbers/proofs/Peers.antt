@@ -4,7 +4,7 @@ use Rattle.diameter.specs.Message.{body_of}
 use Rattle.diameter.specs.Put.{All}
 use Rattle.reading.specs.Groups.{rfc3588, rfc6733}
 use Rattle.rewrite.specs.Change.{altered_up_to}
-use Rattle.counting.specs.declared.Event.{Event}
+use Rattle.counting.specs.Event.{Event}
 use Rattle.calling.specs.Call.{Call, Answered, Refused}
 use Rattle.calling.specs.Lent.{Lent, asking, table_only}
 use Rattle.refusals.specs.Early.{check_value}

@@ -1,6 +1,6 @@
 -- The calls of a report over a table of its exact length, as specs/Turns has them over an area: the proofs are about these.
 use Rattle.octets.specs.Standard.{ℕ, ◌+◌, List, [], ◌∷◌}
-use Rattle.counting.specs.declared.Event.{Event}
+use Rattle.counting.specs.Event.{Event}
 use Rattle.calling.specs.Lent.{Lent, lent, asking}
 use Rattle.reporting.specs.Row.{records_altered, next, row, left}
 use Rattle.reporting.specs.Report.{requests_of, reported_table}

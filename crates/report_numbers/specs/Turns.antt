@@ -3,8 +3,8 @@ use Rattle.std.specs.Prelude.{ℕ, ◌+◌, Bool, true, false, not, ◌||◌, �
 use Rattle.counting.specs.Counted.{counts_of}
 use Rattle.counting.specs.Layout.{stop_word}
 use Rattle.counting.specs.Results.{command_row, column_of}
-use Rattle.counting.specs.declared.Event.{Event}
-use Rattle.counting.specs.declared.Event.TheVariants as event
+use Rattle.counting.specs.Event.{Event}
+use Rattle.std.specs.Prelude.{Ok, Err}
 use Rattle.calling.specs.Call.{Call, Answered, Refused}
 use Rattle.calling.specs.Lent.{Lent, lent, asking, table_only}
 use Rattle.demands.specs.Frame.{succeeds}
@@ -31,12 +31,12 @@ call_at x p = asking (left_over x p.before) p.request
 
 -- refused by a number; answered, in a row and a column of the report
 abbrev pub refused_by : ℕ → Event → Bool
-refused_by n (event.Answered e) = false
-refused_by n (event.Refused m) = eqb m n
+refused_by n (Ok e) = false
+refused_by n (Err m) = eqb m n
 
 abbrev pub answered_in : ℕ → ℕ → Event → Bool
-answered_in r c (event.Answered e) = eqb (command_row e.command) r && eqb (column_of e.result) c
-answered_in r c (event.Refused m) = false
+answered_in r c (Ok e) = eqb (command_row e.command) r && eqb (column_of e.result) c
+answered_in r c (Err m) = false
 
 -- the length of an answer, 0 of a refusal
 abbrev pub call_length : Call → ℕ
@@ -50,8 +50,8 @@ altered_over x (p ∷ ps) = records_altered (table_only (asking x p)) + altered_
 
 -- refused, or answered by an error, or neither a SAR nor a MAR
 abbrev pub idle : Event → Bool
-idle (event.Answered e) = not (succeeds e.result) || not (eqb e.command 301 || eqb e.command 303)
-idle (event.Refused m) = true
+idle (Ok e) = not (succeeds e.result) || not (eqb e.command 301 || eqb e.command 303)
+idle (Err m) = true
 
 unfoldable pub all_idle : List Event → Bool
 all_idle [] = true

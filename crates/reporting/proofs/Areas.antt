@@ -1,9 +1,9 @@
 -- A report over an area: its calls are those of `serve` over the area in turn, and it leaves what they leave.
+use Rattle.std.specs.Prelude.{Ok}
 use Rattle.octets.specs.Standard.{ℕ, ◌≤◌, Bool, true, false, List, [], ◌∷◌, ◌++◌, ◌≡◌, refl, sym, ◌∙◌, ap, leb, length, take, drop}
 use Rattle.octets.specs.Standard.{length-take-le, le-ltb, lt-ltb, leb-true, leb-false}
-use Rattle.blocks.specs.declared.Checked.TheVariants.{Sound}
 use Rattle.table.specs.Area.{table_in}
-use Rattle.counting.specs.declared.Event.{Event}
+use Rattle.counting.specs.Event.{Event}
 use Rattle.reading.specs.declared.Terms.{Terms}
 use Rattle.calling.specs.Lent.{Lent, lent, asking, holding, table_only, put_back}
 use Rattle.calling.specs.Serve.{check_of, serve}
@@ -74,7 +74,7 @@ module _ (x : Lent) (area : List ℕ) where
   pub reported_rest : drop (length (table_in x.table)) (reported x area).table ≡ drop (length (table_in x.table)) x.table
   reported_rest = put_rest x.table (reported_table (table_only x) area).table (reported_large (table_only x) area)
 
-  pub reported_sound : (count : ℕ) → check_of x ≡ Sound count → reported x area ≡ reported_table x area
+  pub reported_sound : (count : ℕ) → check_of x ≡ Ok count → reported x area ≡ reported_table x area
   reported_sound count e =
       let r : Reported = reported_table x area in
       ap (λ (y : Lent). report_back x.table (reported_table y area)) (only_sound x count e)

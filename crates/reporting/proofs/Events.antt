@@ -1,21 +1,21 @@
 -- A call as it is counted: the event of the definitions, which always has a word.
+use Rattle.std.specs.Prelude.{Result, Ok, Err}
+use Rattle.refusals.specs.declared.Refusal.{Refusal}
+use Rattle.deciding.specs.declared.Told.{Told}
 use Rattle.octets.specs.Standard.{ℕ, List, ◌≡◌, ap, ◌∙◌, arith, length}
 use Rattle.table.specs.Check.{check_table}
-use Rattle.blocks.specs.declared.Checked.{Checked}
 use Rattle.reading.specs.declared.Terms.{Terms}
 use Rattle.counting.specs.Counting.{Fits, counted}
-use Rattle.counting.specs.declared.Event.{Event}
+use Rattle.counting.specs.Event.{Event}
 use Rattle.deciding.proofs.Comes.{decide_carries}
 use Rattle.calling.specs.Lent.{Lent, lent, dialect_in}
 use Rattle.refusals.specs.Early.{check_value}
 use Rattle.calling.specs.Serve.{Served, check_of, refused, answered_by, serve_table}
 use Rattle.calling.specs.Leaves.{Leaves}
-use Rattle.calling.specs.declared.Came.{Came}
 use Rattle.calling.proofs.Kept.{serve_by_lem}
 use Rattle.reporting.specs.Row.{event_by, event_of}
 use Rattle.reporting.specs.Run.{event_from}
 use Rattle.reporting.specs.Counts.{Counts}
-use Rattle.calling.specs.declared.Came.TheVariants as came
 
 -- refusals have numbers up to 12, and every result has a column
 pub event_fits : (x : Lent) → Fits (event_of x)
@@ -25,13 +25,13 @@ event_fits x =
     (λ k. (decide_carries (dialect_in x) x.request x.table (check_value (check_of x)) x.vectors).result)
 
 module _ (x : Lent) where
-  event_is : (r : Came) {t' v' o' : List ℕ} → Leaves x (serve_table x) (check_value (check_of x)) r t' v' o' → event_from r ≡ event_of x
+  event_is : (r : Result Told Refusal) {t' v' o' : List ℕ} → Leaves x (serve_table x) (check_value (check_of x)) r t' v' o' → event_from r ≡ event_of x
   unfolding event_of
-  event_is (came.Answered told) l = rw (← l.call_is, l.noted.0, l.noted.1, l.noted.2, l.table_is)
-  event_is (came.Refused number besides) l = rw (← l.call_is)
+  event_is (Ok told) l = rw (← l.call_is, l.noted.0, l.noted.1, l.noted.2, l.table_is)
+  event_is (Err r) l = rw (← l.call_is)
 
 -- The same, as the code has it: the checks were made before.
-module _ (req t file v o : List ℕ) (terms : Terms) (c : Checked) (checked : c ≡ check_table t (length file)) (r : Came)
+module _ (req t file v o : List ℕ) (terms : Terms) (c : Result ℕ ℕ) (checked : c ≡ check_table t (length file)) (r : Result Told Refusal)
     {t' v' o' : List ℕ} (l : Leaves (lent req t file v o terms) (serve_table (lent req t file v o terms)) (check_value c) r t' v' o') where
   abbrev x : Lent
   x = lent req t file v o terms

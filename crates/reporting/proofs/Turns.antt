@@ -1,8 +1,8 @@
 -- The turns of a report: what is behind and what is to come make the whole.
+use Rattle.std.specs.Prelude.{Result}
 use Rattle.octets.specs.Standard.{ℕ, ◌+◌, ◌-◌, ◌≤◌, List, [], ◌∷◌, ◌≡◌, refl, sym, ◌∙◌, add-sub_cancel_left, arith, length, take, drop, length-take}
 use Rattle.octets.specs.Standard.{length-drop, drop-drop, take_all}
 use Rattle.table.specs.Check.{check_table}
-use Rattle.blocks.specs.declared.Checked.{Checked}
 use Rattle.vectors.specs.VectorFile.{check_vectors}
 use Rattle.reading.specs.declared.Terms.{Terms}
 use Rattle.counting.specs.Counting.{counted_all}
@@ -87,8 +87,8 @@ module _ (req t₀ file v₀ o₀ : List ℕ) (terms : Terms) (c₀ : List ℕ) 
 
 -- what was checked before a request is so after it
 module _ (req t file v o : List ℕ) (terms : Terms) {counts counts' t' v' o' : List ℕ} (s : Counts (lent req t file v o terms) counts counts' t' v' o') where
-  pub turn_table : {c : Checked} → c ≡ check_table t (length file) → c ≡ check_table t' (length file)
+  pub turn_table : {c : Result ℕ ℕ} → c ≡ check_table t (length file) → c ≡ check_table t' (length file)
   turn_table e = e ∙ sym (table_checked (lent req t file v o terms)) ∙ rw s.table_is
 
-  pub turn_vectors : {d : Checked} → d ≡ check_vectors v → d ≡ check_vectors v'
+  pub turn_vectors : {d : Result ℕ ℕ} → d ≡ check_vectors v → d ≡ check_vectors v'
   turn_vectors e = e ∙ sym (vectors_checked (lent req t file v o terms)) ∙ rw s.vectors_is

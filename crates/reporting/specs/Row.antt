@@ -2,8 +2,8 @@
 use Rattle.std.specs.Prelude.{ℕ, List, [], ◌∷◌}
 use Rattle.rewrite.specs.Change.{altered_up_to}
 use Rattle.diameter.specs.Message.{command_of}
-use Rattle.counting.specs.declared.Event.{Event}
-use Rattle.counting.specs.declared.Event.TheVariants as event
+use Rattle.counting.specs.Event.{Event}
+use Rattle.std.specs.Prelude.{Ok, Err}
 use Rattle.calling.specs.Call.{Call, Answered, Refused}
 use Rattle.calling.specs.Lent.{Lent, lent, asking, table_only}
 use Rattle.refusals.specs.Early.{check_value}
@@ -16,8 +16,8 @@ records_altered x = altered_up_to x.table (serve_table x).table (check_value (ch
 -- a call as it is counted: an answer by its command and result, a refusal by its number
 abbrev pub event_by : Lent → Call → Event
 event_by x (Answered a) =
-    event.Answered (record { command = command_of x.request; result = result_of x; length = a.length; altered = records_altered x })
-event_by x (Refused number besides) = event.Refused number
+    Ok (record { command = command_of x.request; result = result_of x; length = a.length; altered = records_altered x })
+event_by x (Refused number besides) = Err number
 
 unfoldable pub event_of : Lent → Event
 event_of x = event_by x (serve_table x).call

@@ -9,11 +9,13 @@ ghost use Rattle.reporting.specs.Run.{event_from};
 ghost use Rattle.reporting.specs.Counts.{Runs, Counts, Reports};
 ghost use Rattle.reporting.specs.Report.{reported_table, reported};
 
-use calling::{Came, Shared};
-use counting::{Entry, Event, words};
+use calling::Shared;
+use counting::{Entry, words};
+use deciding::Told;
 use diameter::message;
 use octets::number;
 use reading::Terms;
+use refusals::Refusal;
 
 // The two ways in which a report does not end well, by their numbers.
 const STOPPED: u16 = 7;
@@ -40,20 +42,20 @@ pub fn first_length(s: &[u8]) -> usize
 }
 
 // A call as it is counted.
-fn event_of(c: Came) -> Event
+fn event_of(c: Result<Told, Refusal>) -> Result<Entry, u16>
     ensures { result ≡ event_from c }
 {
     match c {
-        Came::Answered(told) => {
+        Ok(told) => {
             let result = told.result;
-            Event::Answered(Entry {
+            Ok(Entry {
                 command: told.command,
                 result,
                 length: told.length,
                 altered: told.altered,
             })
         }
-        Came::Refused { number, besides: _ } => Event::Refused(number),
+        Err(r) => Err(r.number()),
     }
 }
 
@@ -75,7 +77,7 @@ fn count_one(
     counting::count(counts, event_of(came));
 }
 
-// Every request of the file in turn. Answers the byte where reading stops.
+// Every request of the file in turn, by place: each says where the next one begins. Answers the byte where reading stops.
 fn run(
     counts: &mut [u64; counting::WORDS],
     k: Shared,

@@ -1,4 +1,5 @@
 -- The Public-Identities of a walk, one after the other.
+use Rattle.std.specs.Prelude.{Option, Some, None, Result, Ok, Err}
 use Rattle.octets.specs.Standard.{ℕ, zero, suc, ◌+◌, ◌-◌, ◌≤◌, ◌<◌, ◌≡◌, refl, sym, ◌∙◌, List, [], ◌∷◌, map, Bool, true, false, cond, arith, length}
 use Rattle.octets.specs.Standard.{drop, eqb, ne_eqb}
 use Rattle.diameter.specs.Avp.{padded, sound}
@@ -7,17 +8,14 @@ use Rattle.diameter.specs.Put.{All}
 use Rattle.diameter.specs.Reader.{avp_here, read_of, own_of}
 use Rattle.diameter.specs.AvpAt.{avp_at}
 use Rattle.diameter.specs.declared.Avp.{Avp}
-use Rattle.diameter.specs.declared.Read.{Read}
 use Rattle.diameter.proofs.Reading.{Says, read_says, read_unsound, walk_past}
 use Rattle.diameter.proofs.Parts.{counted}
 use Rattle.reading.specs.Kinds.{kind_of, public_identity}
 use Rattle.requests.specs.Request.{identities}
 use Rattle.requests.specs.Identity.{places_from}
 use Rattle.requests.specs.NextIdentity.{places_by, Stands, Named}
-use Rattle.requests.specs.declared.identities.Next.{Next}
-use Rattle.requests.specs.declared.identities.Next.TheVariants.{At, Nothing}
+use Rattle.requests.specs.declared.identities.Identity.{Identity}
 use Rattle.requests.proofs.Requests.{at_fault}
-use Rattle.diameter.specs.declared.Read.TheVariants as read
 
 -- the walk goes on at the next place
 module _ (s : List ℕ) (at : ℕ) (a : Avp) (says : Says s at a) where
@@ -31,17 +29,17 @@ module _ (s : List ℕ) (at : ℕ) (a : Avp) (says : Says s at a) where
 
 -- the turns of the loop that looks for the next
 module _ (s : List ℕ) (from at : ℕ) (reached : from ≤ at) (left : places_from at (walk (drop at s)) ≡ places_from from (walk (drop from s))) where
-  pub named_end : length s ≤ at → Named s from Nothing
+  pub named_end : length s ≤ at → Named s from None
   unfolding places_from places_by
   named_end h = record { rest = sym left ∙ rw (walk_past s at h); stands = tt }
 
-  module _ (r : Read) (e : r ≡ read_of at (drop at s)) where
-    pub named_cut : {p : ℕ} → r ≡ read.Fault p → Named s from Nothing
+  module _ (r : Result Avp ℕ) (e : r ≡ read_of at (drop at s)) where
+    pub named_cut : {p : ℕ} → r ≡ Err p → Named s from None
     unfolding places_from places_by
     named_cut d = record { rest = sym left ∙ sym (at_fault (places_from at) [] (drop at s) (read_unsound s at r e d) refl refl); stands = tt }
 
-    module _ (a : Avp) (k : ℕ) (d : r ≡ read.Avp a) (ek : k ≡ kind_of (own_of s a)) where
-      pub named_at : at < length s → k ≡ public_identity → Named s from (At a.at a.next)
+    module _ (a : Avp) (k : ℕ) (d : r ≡ Ok a) (ek : k ≡ kind_of (own_of s a)) where
+      pub named_at : at < length s → k ≡ public_identity → Named s from (Some (record { place = a.at; past = a.next }))
       unfolding places_by
       named_at h z =
           let says = read_says s at r e a d in
@@ -74,7 +72,7 @@ module _ (s : List ℕ) (at : ℕ) where
 
   whole_says : sound (drop at s) ≡ true → Says s at (avp_here at (drop at s))
   unfolding read_of
-  whole_says e = read_says s at (read.Avp (avp_here at (drop at s))) (rw e) (avp_here at (drop at s)) refl
+  whole_says e = read_says s at (Ok (avp_here at (drop at s))) (rw e) (avp_here at (drop at s)) refl
 
 at_places : (s : List ℕ) (n at : ℕ) → length s ≤ at + n → map (avp_at s) (places_from at (walk (drop at s))) ≡ identities (walk (drop at s))
 unfolding identities places_from
@@ -124,24 +122,24 @@ pub places_stand : (s : List ℕ) (at : ℕ) → All (Stood s at) (places_from a
 places_stand s at = all_stood s (length s) at (omega arith)
 
 -- What a caller may use of the answer: the first identity and the rest, or none; a loop over them ends.
-module _ (s : List ℕ) (from : ℕ) (r : Next) (n : Named s from r) where
-  pub no_place : r ≡ Nothing → places_from from (walk (drop from s)) ≡ []
+module _ (s : List ℕ) (from : ℕ) (r : Option Identity) (n : Named s from r) where
+  pub no_place : r ≡ None → places_from from (walk (drop from s)) ≡ []
   unfolding places_by
   no_place d = n.rest ∙ rw d
 
-  pub named_none : r ≡ Nothing → identities (walk (drop from s)) ≡ []
+  pub named_none : r ≡ None → identities (walk (drop from s)) ≡ []
   named_none d = sym (identities_at s from) ∙ rw (no_place d)
 
-  module _ (place past : ℕ) (d : r ≡ At place past) where
-    pub first_place : places_from from (walk (drop from s)) ≡ place ∷ places_from past (walk (drop past s))
+  module _ (i : Identity) (d : r ≡ Some i) where
+    pub first_place : places_from from (walk (drop from s)) ≡ i.place ∷ places_from i.past (walk (drop i.past s))
     unfolding places_by
     first_place = n.rest ∙ rw d
 
-    pub named_first : identities (walk (drop from s)) ≡ avp_at s place ∷ identities (walk (drop past s))
-    named_first = sym (identities_at s from) ∙ rw (first_place, identities_at s past)
+    pub named_first : identities (walk (drop from s)) ≡ avp_at s i.place ∷ identities (walk (drop i.past s))
+    named_first = sym (identities_at s from) ∙ rw (first_place, identities_at s i.past)
 
-    pub named_stands : Stands s from place past
+    pub named_stands : Stands s from i.place i.past
     named_stands = rw d at n.stands
 
-    pub named_less : length s - past < length s - from
+    pub named_less : length s - i.past < length s - from
     named_less = let h = named_stands in omega (arith, h.reached, h.inside, h.later)

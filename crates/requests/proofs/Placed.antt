@@ -1,15 +1,14 @@
 -- A kind's AVP is what stands at the kind's place.
+use Rattle.std.specs.Prelude.{Result, Ok, Err}
 use Rattle.octets.specs.Standard.{ℕ, ◌<◌, ◌≡◌, refl, sym, ◌∙◌, List, Option, none, some, Bool, length, get_or, drop, drop-nil}
 use Rattle.diameter.specs.Avp.{head_of, data_of, value_of}
 use Rattle.diameter.specs.Reader.{read_of, own_of}
 use Rattle.diameter.specs.AvpAt.{part_at, present, or_none, data_at}
 use Rattle.diameter.specs.declared.Avp.{Avp}
-use Rattle.diameter.specs.declared.Read.{Read}
 use Rattle.diameter.proofs.Reading.{read_says, read_none}
 use Rattle.requests.specs.Request.{given, data_if, value_if, data_seen, value_seen}
 use Rattle.reading.specs.Places.{seen_of}
 use Rattle.reading.proofs.Judging.{seen_at}
-use Rattle.diameter.specs.declared.Read.TheVariants as read
 
 data_if_lem : (o : Option (List ℕ)) → data_if o ≡ data_of (or_none o)
 data_if_lem none = sym (drop-nil (head_of 0))
@@ -35,9 +34,9 @@ module _ (s places : List ℕ) (k : ℕ) (room : k < length places) where
   given_placed b e = e ∙ sym given_in
 
 -- the number at a place
-module _ (s : List ℕ) (at : ℕ) (r : Read) (e : r ≡ read_of at (drop at s)) where
-  pub place_empty : {p : ℕ} → r ≡ read.Fault p → 0 ≡ value_if (part_at s at)
+module _ (s : List ℕ) (at : ℕ) (r : Result Avp ℕ) (e : r ≡ read_of at (drop at s)) where
+  pub place_empty : {p : ℕ} → r ≡ Err p → 0 ≡ value_if (part_at s at)
   place_empty d = rw (read_none s at r e d)
 
-  pub place_value : (a : Avp) (v : ℕ) → r ≡ read.Avp a → v ≡ value_of (own_of s a) → v ≡ value_if (part_at s at)
+  pub place_value : (a : Avp) (v : ℕ) → r ≡ Ok a → v ≡ value_of (own_of s a) → v ≡ value_if (part_at s at)
   place_value a v d ev = rw (read_says s at r e a d).part ev

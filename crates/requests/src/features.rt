@@ -9,7 +9,7 @@ ghost use Rattle.requests.specs.Judged.{fine};
 ghost use Rattle.requests.specs.Request.{read_in};
 
 use crate::places;
-use diameter::{Read, message};
+use diameter::message;
 use reading::{Dialect, Terms, features, kinds};
 
 // Whether the server's own list is called for, and whether a feature is asked for that it does not support.
@@ -27,9 +27,10 @@ fn wanted_in(s: &[u8], d: Dialect) -> Wanted
     let terms = d.terms;
     let mut listed = false;
     let mut beyond = false;
+    // By place: each AVP says where the next one begins.
     let mut at = message::BODY;
     while at < s.len() {
-        let Read::Avp(a) = diameter::read_avp(s, at) else {
+        let Ok(a) = diameter::read_avp(s, at) else {
             return Wanted { listed, beyond };
         };
         if kinds::kind_of(s, a) == kinds::SUPPORTED_FEATURES {
@@ -49,7 +50,7 @@ pub fn wanted_of(req: &[u8], terms: Terms) -> Wanted
     let d = crate::dialect(req, terms);
     let found = wanted_in(req, d);
     Wanted {
-        listed: (crate::header_fault(req, d) == 0) & found.listed,
+        listed: crate::header(req, d, crate::spoken(d)).is_ok() & found.listed,
         beyond: found.beyond,
     }
 }

@@ -5,14 +5,13 @@ ghost use Rattle.reading.specs.Kinds.{kinds};
 ghost use Rattle.requests.specs.Request.{given, value_if, data_seen, value_seen, member_seen};
 ghost use Rattle.reading.specs.Places.{seen_of};
 
-use diameter::Read;
 use reading::kinds;
 
-// The number that the 4-byte AVP at a place holds, 0 where there is none.
+// The number that the 4-byte AVP at a place holds, 0 where there is none: the definition `value_if` says so.
 pub fn value_of_place(s: &[u8], place: usize) -> u32
     ensures { result ≡ value_if (part_at s.now place) }
 {
-    let Read::Avp(a) = diameter::read_avp(s, place) else {
+    let Ok(a) = diameter::read_avp(s, place) else {
         return 0;
     };
     diameter::value_of(s, a)

@@ -1,4 +1,5 @@
 -- What rests on what every effect keeps: a table stays sound, and what is found in it is found again.
+use Rattle.std.specs.Prelude.{Ok}
 use Rattle.octets.specs.Standard.{ℕ, ◌+◌, ◌*◌, ◌<◌, ◌≤◌, Bool, true, false, ◌≡◌, refl, sym, ◌∙◌, List, [], arith, eqb, leb, eqb-true, eqb-false}
 use Rattle.octets.specs.Standard.{leb-true, leb-false, length, drop_of_length-le}
 use Rattle.octets.proofs.Numbers.{be16_alike}
@@ -12,7 +13,6 @@ use Rattle.record.proofs.OneSet.{set_alike}
 use Rattle.blocks.specs.Blocks.{block_of}
 use Rattle.table.specs.Named.{public_at}
 use Rattle.table.specs.Check.{rises_at, stands_at, agrees_at, sound_at, check_table}
-use Rattle.blocks.specs.declared.Checked.TheVariants.{Sound}
 use Rattle.table.specs.SoundTable.{SoundTable}
 use Rattle.table.proofs.Agreement.{agrees_holds}
 use Rattle.table.proofs.Rising.{rises_alike}
@@ -105,7 +105,7 @@ module _ (x y : List ℕ) (count : ℕ) (keeping : Keeping x y count) (sound : S
         tests_rises x sound.file count was k a b,
       )
 
-  pub keeping_sound : check_table y sound.file ≡ Sound count
+  pub keeping_sound : check_table y sound.file ≡ Ok count
   keeping_sound =
       table_holds y sound.file count
       (record {

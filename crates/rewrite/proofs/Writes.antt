@@ -1,11 +1,10 @@
 -- What the functions that write leave, each by what its parts left.
-use Rattle.octets.specs.Standard.{ℕ, ◌+◌, ◌-◌, ◌*◌, ◌≤◌, Bool, true, false, cond, not, ◌||◌, true≢false, ◌≡◌, refl, sym, ◌∙◌, ap, List, ◌++◌, arith}
+use Rattle.octets.specs.Standard.{ℕ, ◌+◌, ◌*◌, ◌≤◌, Bool, true, false, cond, not, ◌||◌, true≢false, ◌≡◌, refl, sym, ◌∙◌, ap, List, ◌++◌, arith}
 use Rattle.octets.specs.Standard.{eqb, length, get_or, set, take, drop, length-set, length-take, length-drop, drop-drop, drop_at, take_at}
-use Rattle.octets.specs.Standard.{length-take-le, mid_of, put_mid, put_same, mid_len}
+use Rattle.octets.specs.Standard.{length-take-le, mid_of, put_mid, put_same}
 use Rattle.octets.specs.Name.{same}
 use Rattle.octets.specs.Run.{put_name}
 use Rattle.octets.proofs.Names.{same_eq, same_refl, same_yes, same_no}
-use Rattle.octets.proofs.Runs.{name_length}
 use Rattle.record.specs.Fields.{state_of, bits_of, server_of, cleared, pending_set}
 use Rattle.record.specs.RecordBlock.{record_of}
 use Rattle.record.specs.Sets.{same_set}
@@ -13,8 +12,6 @@ use Rattle.record.specs.declared.subscriber.Record.{Record}
 use Rattle.blocks.specs.Blocks.{block_of}
 use Rattle.blocks.specs.Sealed.{sealed}
 use Rattle.blocks.specs.Changed.{changed_in}
-use Rattle.blocks.proofs.Sealed.{sealed_length}
-use Rattle.blocks.proofs.Changed.{block_put}
 use Rattle.rewrite.specs.Renew.{renewed, settled, challenged}
 use Rattle.rewrite.specs.Fitting.{Fitting, change_of, ChangeFits}
 use Rattle.rewrite.specs.Change.{differ}
@@ -26,12 +23,6 @@ use Rattle.rewrite.proofs.Bytes.{renewed_length}
 module _ (b : List ℕ) (state bits : ℕ) (name : List ℕ) (whole : length b ≡ 512) where
   pub draft_fits : (n : ℕ) → n ≤ 96 → 272 + n ≤ length (set (set (set b 8 state) 9 bits) 15 (length name))
   draft_fits n h = simp length-set (omega arith)
-
-  pub draft_whole : (n : ℕ) {x : List ℕ} → x ≡ put_name (set (set (set b 8 state) 9 bits) 15 (length name)) 272 name n → length x ≡ 512
-  draft_whole n e = ap length e ∙ name_length _ 272 name n ∙ simp length-set whole
-
-  pub renew_kept : (n : ℕ) {x y : List ℕ} → x ≡ put_name (set (set (set b 8 state) 9 bits) 15 (length name)) 272 name n → y ≡ sealed x → length y ≡ length b
-  renew_kept n {x} e f = ap length f ∙ sealed_length x ∙ draft_whole n e ∙ sym whole
 
   pub renew_put : {x y : List ℕ} → x ≡ put_name (set (set (set b 8 state) 9 bits) 15 (length name)) 272 name 96 → y ≡ sealed x → y ≡ renewed b state bits name
   unfolding renewed
@@ -83,11 +74,6 @@ module _ (c : Change) (name : List ℕ) where
     unfolding change_of
     change_challenged e f = rw e f
 
--- A block of a table, lent and come back.
-pub change_put : (t : List ℕ) (k : ℕ) (c : Change) (name : List ℕ) {y : List ℕ} → y ≡ change_of c name (mid_of (512 * k) (512 * k + 512 - 512 * k) t)
-    → put_mid (512 * k) (512 * k + 512 - 512 * k) t y ≡ changed_in t k (change_of c name)
-change_put t k c name e = block_put (change_of c name) t k e
-
 -- a table has other bytes exactly if the block that was lent has
 mid_put : (a n : ℕ) (t y : List ℕ) → a ≤ length t → length y ≡ n → mid_of a n (put_mid a n t y) ≡ y
 mid_put a n t y h l =
@@ -124,13 +110,10 @@ unfolding change_of settled
 change_length (Settled state) name b = renewed_length b state (cleared (bits_of b)) name
 change_length Challenged name b = challenged_length name b
 
-pub change_differs : (t : List ℕ) (k : ℕ) (c : Change) (name : List ℕ) {y : List ℕ} {r : ℕ} → 512 * k + 512 ≤ length t
-    → y ≡ change_of c name (mid_of (512 * k) (512 * k + 512 - 512 * k) t) → r ≡ differ (mid_of (512 * k) (512 * k + 512 - 512 * k) t) y
-    → r ≡ differ t (put_mid (512 * k) (512 * k + 512 - 512 * k) t y)
-change_differs t k c name h e f =
-    f
-    ∙ lent_differs t _ (512 * k) (512 * k + 512 - 512 * k) (omega arith)
-    (ap length e ∙ change_length c name _ ∙ mid_len (512 * k) (512 * k + 512) t h)
+pub change_differs : (t : List ℕ) (k : ℕ) (c : Change) (name : List ℕ) {x y z : List ℕ} {r : ℕ} → 512 * k + 512 ≤ length t → x ≡ block_of t k
+    → y ≡ change_of c name x → r ≡ differ x y → z ≡ changed_in t k (change_of c name) → r ≡ differ t z
+change_differs t k c name h d e f g =
+    f ∙ rw (e, d, g) (in_differs (change_of c name) t k (change_length c name (block_of t k)) h)
 
 pub if_yes : (c : Bool) (a b : List ℕ) {y : List ℕ} → c ≡ true → y ≡ a → y ≡ cond c a b
 if_yes c a b e f = rw e f

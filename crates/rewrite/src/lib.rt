@@ -11,6 +11,7 @@ ghost use Rattle.rewrite.specs.Change.{after_of, reaches, differ, altered_up_to}
 ghost use Rattle.rewrite.specs.Renew.{renewed, settled, challenged};
 ghost use Rattle.rewrite.specs.Fitting.{Fitting, change_of, ChangeFits};
 
+use blocks::BLOCK;
 use octets::{name, run, sum};
 use record::subscriber::Record;
 use record::{fields, sets};
@@ -23,8 +24,8 @@ pub enum Change {
 }
 
 // Gives a record block another state, other bits and another server name, all bytes of its field.
-fn renew(b: &mut [u8], state: u8, bits: u8, name: &[u8])
-    requires { (length b.old ≡ 512) × (length name.now ≤ 96) }
+fn renew(b: &mut [u8; BLOCK], state: u8, bits: u8, name: &[u8])
+    requires { length name.now ≤ 96 }
     ensures { b.new ≡ renewed b.old state bits name.now }
 {
     b[Record::STATE_AT] = state;
@@ -35,8 +36,8 @@ fn renew(b: &mut [u8], state: u8, bits: u8, name: &[u8])
 }
 
 // Whether a record block is already as it would be renewed: state, bits and name, zeros after the name, and a check word that is right.
-fn held(b: &[u8], state: u8, bits: u8, name: &[u8]) -> bool
-    requires { (length b.now ≡ 512) × (length name.now ≤ 96) }
+fn held(b: &[u8; BLOCK], state: u8, bits: u8, name: &[u8]) -> bool
+    requires { length name.now ≤ 96 }
     ensures { result ≡ same b.now (renewed b.now state bits name.now) }
 {
     (b[Record::STATE_AT] == state)
@@ -47,8 +48,8 @@ fn held(b: &[u8], state: u8, bits: u8, name: &[u8]) -> bool
 }
 
 // The same as renew. Answers 1 if the block has other bytes then, else 0.
-fn renew_counted(b: &mut [u8], state: u8, bits: u8, name: &[u8]) -> u32
-    requires { (length b.old ≡ 512) × (length name.now ≤ 96) }
+fn renew_counted(b: &mut [u8; BLOCK], state: u8, bits: u8, name: &[u8]) -> u32
+    requires { length name.now ≤ 96 }
     ensures { (b.new ≡ renewed b.old state bits name.now) × (result ≡ differ b.old b.new) × (result ≤ 1) }
 {
     if held(b, state, bits, name) {
@@ -59,8 +60,8 @@ fn renew_counted(b: &mut [u8], state: u8, bits: u8, name: &[u8]) -> u32
 }
 
 // Gives a record block another state and another server name, and clears pending.
-fn settle_block(b: &mut [u8], state: u8, name: &[u8]) -> u32
-    requires { (length b.old ≡ 512) × Fitting state name.now }
+fn settle_block(b: &mut [u8; BLOCK], state: u8, name: &[u8]) -> u32
+    requires { Fitting state name.now }
     ensures { (b.new ≡ settled state name.now b.old) × (result ≡ differ b.old b.new) × (result ≤ 1) }
 {
     let bits = Record::read(b).cleared();
@@ -68,8 +69,8 @@ fn settle_block(b: &mut [u8], state: u8, name: &[u8]) -> u32
 }
 
 // "The Server-Name is stored if different; pending is set if state is 0 or the name changed."
-fn challenge_block(b: &mut [u8], name: &[u8]) -> u32
-    requires { (length b.old ≡ 512) × (length name.now ≤ 96) }
+fn challenge_block(b: &mut [u8; BLOCK], name: &[u8]) -> u32
+    requires { length name.now ≤ 96 }
     ensures { (b.new ≡ challenged name.now b.old) × (result ≡ differ b.old b.new) × (result ≤ 1) }
 {
     let state = b[Record::STATE_AT];
@@ -81,8 +82,8 @@ fn challenge_block(b: &mut [u8], name: &[u8]) -> u32
 }
 
 // The same of either.
-fn change_block(b: &mut [u8], c: Change, name: &[u8]) -> u32
-    requires { (length b.old ≡ 512) × ChangeFits c name.now }
+fn change_block(b: &mut [u8; BLOCK], c: Change, name: &[u8]) -> u32
+    requires { ChangeFits c name.now }
     ensures { (b.new ≡ change_of c name.now b.old) × (result ≡ differ b.old b.new) × (result ≤ 1) }
 {
     match c {
@@ -97,8 +98,8 @@ fn change_at(t: &mut [u8], k: usize, c: Change, name: &[u8]) -> u32
     ensures { (t.new ≡ changed_in t.old k (change_of c name.now))
         × (result ≡ differ t.old t.new) × (result ≤ 1) }
 {
-    let at = blocks::BLOCK * k;
-    change_block(&mut t[at..at + blocks::BLOCK], c, name)
+    let (_, rest) = t.split_at_mut(BLOCK * k);
+    change_block(rest.first_chunk_mut().unwrap(), c, name)
 }
 
 // The same, if the record is chosen.

@@ -1,8 +1,8 @@
 -- A row of cards: two MARs of one private identity, each for one vector, over a file of one. The first is sent it and stores the server name, and for the
 -- second none is left: table and vectors are carried along within the row.
+use Rattle.std.specs.Prelude.{Ok}
 use Rattle.octets.specs.Standard.{ℕ, ◌≤◌, List, [], ◌∷◌, true, false, ◌≡◌, refl, sym, ap, ◌∙◌, arith, length, drop, length-drop, le-ltb, lit≤}
 use Rattle.octets.specs.Run.{over}
-use Rattle.blocks.specs.declared.Checked.TheVariants.{Sound}
 use Rattle.vectors.specs.VectorFile.{check_vectors}
 use Rattle.diameter.specs.Put.{All}
 use Rattle.pen.specs.Bytes.{number_bytes}
@@ -51,11 +51,11 @@ cards_pieces = (report_0_whole (cards []) (ends_of.area (cards [])) (area_room (
 cards_ended : ended (end_to_end both) ≡ 0
 cards_ended = sym (ended_report (cards [])) ∙ (report_0_whole (cards []) (ends_of.area (cards [])) (area_room (cards [])) both each refl).1
 
-fresh_sound : check_vectors fresh ≡ Sound 1
+fresh_sound : check_vectors fresh ≡ Ok 1
 unfolding dealing
 fresh_sound = refl
 
-used_sound : check_vectors used ≡ Sound 1
+used_sound : check_vectors used ≡ Ok 1
 unfolding dealing
 used_sound = refl
 

@@ -1,11 +1,11 @@
 -- Each theorem of a row has an instance: its hypotheses are met by a small row, computed.
+use Rattle.std.specs.Prelude.{Ok}
 use Rattle.octets.specs.Standard.{ℕ, zero, suc, ◌+◌, ◌*◌, ◌/◌, ◌≤◌, ◌<◌, List, [], ◌∷◌, ◌++◌, Bool, true, false, none, ◌≡◌, refl, sym, ap, ◌∙◌, ◌⊎◌, ◌≢◌}
 use Rattle.octets.specs.Standard.{arith, length, get_or, take, drop, replicate, length-replicate, length-drop, le-ltb, lit≤, lit<}
 use Rattle.octets.specs.Run.{over}
 use Rattle.blocks.specs.Blocks.{block_of}
 use Rattle.blocks.specs.Changed.{is_one}
 use Rattle.blocks.proofs.Changed.{one_append}
-use Rattle.blocks.specs.declared.Checked.TheVariants.{Sound}
 use Rattle.table.specs.Area.{size_in, table_in, check_area}
 use Rattle.table.proofs.Areas.{sound_size_in, check_exact}
 use Rattle.diameter.specs.Put.{Piece, All, bytes_of}
@@ -261,7 +261,7 @@ met_refusal : (lent_after lost (strayed ∷ [])).table ≡ gone
 unfolding lost lent_after
 met_refusal = (rows.row_demand_2_refusal lost words (sole lost each.1.1.1.0 big) lost_away).0
 
-gone_sound : check_area gone 0 ≡ Sound 1
+gone_sound : check_area gone 0 ≡ Ok 1
 gone_sound = check_exact gone 0 (sound_size_in gone 0 1 sound_gone) ∙ sound_gone
 
 missing : Lent
@@ -349,7 +349,7 @@ unfolding lent_after
 met_3_next = rows.row_demand_3_next alone words (sole alone each.0 big) longer put_in quiet
 
 -- DEMAND 2 over the month: the record of `a` is changed, and one of the requests asked about it
-here_sound : check_area here 0 ≡ Sound 1
+here_sound : check_area here 0 ≡ Ok 1
 here_sound = check_exact here 0 (sound_size_in here 0 1 sound_here) ∙ sound_here
 
 changed : block_of (rowed month words).table 1 ≢ block_of here 1
@@ -361,7 +361,7 @@ changed e =
 met_asked : (p : InTurn (served_of month words)) × AsksAbout month 1 1 p
 met_asked = (rows.row_demand_2_asked month words 1 here_sound 1 changed).1
 
-met_sound : check_area (rowed month words).table 0 ≡ Sound 1
+met_sound : check_area (rowed month words).table 0 ≡ Ok 1
 met_sound = rows.row_demand_2_sound month words 1 here_sound
 
 met_header : block_of (rowed month words).table 0 ≡ block_of here 0

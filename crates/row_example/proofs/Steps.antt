@@ -1,10 +1,9 @@
 -- How a row is computed, a request at a time, over any area of answers that has room.
+use Rattle.std.specs.Prelude.{Result, Ok}
 use Rattle.octets.specs.Standard.{ℕ, suc, ◌-◌, ◌≤◌, List, [], ◌∷◌, ◌++◌, Bool, true, false, not, ◌||◌, ◌≡◌, sym, ap, ◌∙◌, arith, length, take, drop, take_at}
 use Rattle.octets.specs.Standard.{drop_at, ltb, le-ltb, ne_eqb}
 use Rattle.octets.specs.Name.{same}
 use Rattle.octets.specs.Run.{over}
-use Rattle.blocks.specs.declared.Checked.{Checked}
-use Rattle.blocks.specs.declared.Checked.TheVariants.{Sound}
 use Rattle.rewrite.specs.Change.{altered_up_to}
 use Rattle.counting.specs.Words.{long_bytes}
 use Rattle.refusals.specs.Early.{check_value}
@@ -92,11 +91,11 @@ unfolding row_from
 full_step end x words most p ps e = rw e
 
 -- whether it altered a record, or marked a vector
-pub altered_from : (y : Lent) (s : Served) → serve y ≡ s → check_of y ≡ Sound 1 → alters y ≡ ltb 0 (altered_up_to y.table s.table 1)
+pub altered_from : (y : Lent) (s : Served) → serve y ≡ s → check_of y ≡ Ok 1 → alters y ≡ ltb 0 (altered_up_to y.table s.table 1)
 altered_from y s e f =
     ap (λ (z : Lent). ltb 0 (records_altered z)) (only_sound y 1 f)
     ∙ ap (λ (z : Served). ltb 0 (altered_up_to y.table z.table (check_value (check_of y)))) (sym (serve_sound y 1 f) ∙ e)
-    ∙ ap (λ (c : Checked). ltb 0 (altered_up_to y.table s.table (check_value c))) f
+    ∙ ap (λ (c : Result ℕ ℕ). ltb 0 (altered_up_to y.table s.table (check_value c))) f
 
 pub marked_from : (y : Lent) (s : Served) → serve y ≡ s → marks y ≡ not (same y.vectors s.vectors)
 marked_from y s e = ap (λ (z : Served). not (same y.vectors z.vectors)) e

@@ -1,4 +1,5 @@
 -- What the calls of a row leave, each to the next: lengths, the bytes behind the answers, and what stays of the table and the vectors.
+use Rattle.std.specs.Prelude.{Ok}
 use Rattle.octets.specs.Standard.{ℕ, suc, ◌+◌, ◌/◌, ◌≤◌, ◌<◌, List, [], ◌∷◌, ◌++◌, Bool, true, false, true≢false, Option, none, some, ◌≡◌, refl}
 use Rattle.octets.specs.Standard.{sym, ap, ◌∙◌, ◌≢◌, ◌⊎◌, inl, inr, arith, none-ne-some, some-injective}
 use Rattle.octets.specs.Standard.{length, get_or, take, drop, drop_at, drop-drop, length-append, length-take-le, take-append-drop, append_assoc}
@@ -8,7 +9,6 @@ use Rattle.octets.specs.Run.{over}
 use Rattle.octets.proofs.Names.{same_eq, same_yes}
 use Rattle.record.specs.Fields.{private_of}
 use Rattle.blocks.specs.Blocks.{block_of}
-use Rattle.blocks.specs.declared.Checked.TheVariants.{Sound}
 use Rattle.table.specs.Area.{table_in, check_area}
 use Rattle.table.specs.Named.{private_at}
 use Rattle.counting.specs.Words.{long_bytes, words_bytes}
@@ -151,13 +151,13 @@ answers_append x (p ∷ ps) qs =
 
 -- DEMAND 2 over them: a sound table stays sound, and a record that none of them asks about is as it was.
 pub record Stays (x : Lent) (count : ℕ) (y : Lent) : Type 0 where
-  pub sound : check_area y.table (length y.profile) ≡ Sound count
+  pub sound : check_area y.table (length y.profile) ≡ Ok count
   pub header : block_of y.table 0 ≡ block_of x.table 0
   pub past : (k : ℕ) → count < k → block_of y.table k ≡ block_of x.table k
   pub bytes : (k i : ℕ) → i < 512 → alterable i ≡ false → get_or (block_of y.table k) i 0 ≡ get_or (block_of x.table k) i 0
   pub bits : (k : ℕ) → get_or (block_of y.table k) 9 0 / 2 ≡ get_or (block_of x.table k) 9 0 / 2
 
-pub after_stays : (x : Lent) (ps : List (List ℕ)) (count : ℕ) → check_area x.table (length x.profile) ≡ Sound count → Stays x count (lent_after x ps)
+pub after_stays : (x : Lent) (ps : List (List ℕ)) (count : ℕ) → check_area x.table (length x.profile) ≡ Ok count → Stays x count (lent_after x ps)
 unfolding next
 after_stays x ps count sound =
     carried (Stays x count)
@@ -188,7 +188,7 @@ module _ (count k : ℕ) (area : List ℕ) where
   abbrev Asks : Lent → Type 0
   Asks y = some (private_at area k) ≡ subscription_of (dialect_in y) y.request (table_in y.table) count
 
-  pub after_asked : (x : Lent) (ps : List (List ℕ)) → check_area x.table (length x.profile) ≡ Sound count → block_of x.table k ≡ block_of area k
+  pub after_asked : (x : Lent) (ps : List (List ℕ)) → check_area x.table (length x.profile) ≡ Ok count → block_of x.table k ≡ block_of area k
       → ((p : InTurn ps) × Asks (lent_to x p)) ⊎ (block_of (lent_after x ps).table k ≡ block_of area k)
   unfolding lent_after next private_at
   after_asked x [] sound kept = inr kept
@@ -213,7 +213,7 @@ module _ (count k : ℕ) (area : List ℕ) where
       go (inr n) more =
           later (more (demand_2_others (asking x p) count sound k (inr (λ e. n (ap (λ (b : List ℕ). some (private_of b)) (sym kept) ∙ e))) ∙ kept))
 
-pub changed_asked : (x : Lent) (ps : List (List ℕ)) (count : ℕ) → check_area x.table (length x.profile) ≡ Sound count → (k : ℕ)
+pub changed_asked : (x : Lent) (ps : List (List ℕ)) (count : ℕ) → check_area x.table (length x.profile) ≡ Ok count → (k : ℕ)
     → block_of (lent_after x ps).table k ≢ block_of x.table k → (k ≤ count) × ((p : InTurn ps) × AsksAbout x count k p)
 changed_asked x ps count sound k n = (near (leb k count) refl, asked (after_asked count k x.table x ps sound refl))
   where

@@ -1,11 +1,10 @@
 -- What a row's word says of records and vectors: some request altered one, or none did and the files are as they came. And rows that alter nothing.
+use Rattle.std.specs.Prelude.{Result, Ok, Err}
 use Rattle.octets.specs.Standard.{ℕ, zero, suc, ◌*◌, ◌≤◌, ◌<◌, List, [], ◌∷◌, ◌++◌, Bool, true, false, cond, not, ◌||◌, or-true, true≢false, ◌≡◌, refl}
 use Rattle.octets.specs.Standard.{sym, ap, ◌∙◌, arith, length, eqb, eqb-true, eqb-false, ltb-false}
 use Rattle.octets.specs.Name.{same}
 use Rattle.octets.proofs.Names.{same_eq}
 use Rattle.blocks.specs.Blocks.{block_of}
-use Rattle.blocks.specs.declared.Checked.{Checked}
-use Rattle.blocks.specs.declared.Checked.TheVariants.{Sound, Bad}
 use Rattle.blocks.proofs.Blocks.{table_same, table_is}
 use Rattle.table.specs.Area.{check_area}
 use Rattle.table.proofs.Sound.{table_says}
@@ -96,15 +95,15 @@ module _ (x : Lent) (none : records_altered x ≤ 0) where
   table_stays : (serve_table x).table ≡ x.table
   table_stays = go (check_of x) refl
     where
-      each : (count : ℕ) → check_of x ≡ Sound count → (k : ℕ) → k < suc count → block_of (serve_table x).table k ≡ block_of x.table k
+      each : (count : ℕ) → check_of x ≡ Ok count → (k : ℕ) → k < suc count → block_of (serve_table x).table k ≡ block_of x.table k
       each count e zero l = header_kept x count e
       each count e (suc k) l =
           let n : altered_up_to x.table (serve_table x).table count ≤ 0 = rw e at none in
           sym (blocks_same x.table (serve_table x).table count n k (omega (arith, l)))
 
-      go : (c : Checked) → check_of x ≡ c → (serve_table x).table ≡ x.table
-      go (Bad k) e = (refused_kept x (table_refused x k e x.request)).0
-      go (Sound count) e =
+      go : (c : Result ℕ ℕ) → check_of x ≡ c → (serve_table x).table ≡ x.table
+      go (Err k) e = (refused_kept x (table_refused x k e x.request)).0
+      go (Ok count) e =
           let size : length x.table ≡ 512 * suc count = (table_says x.table (length x.profile) count e).size ∙ omega arith in
           table_is (serve_table x).table (suc count) ((served_large x).bytes ∙ size)
           ∙ table_same (block_of (serve_table x).table) (block_of x.table) (suc count) (each count e)
@@ -130,9 +129,9 @@ unmoved x away ps =
     record { table = k.0 ∙ u.table; vectors = k.1 ∙ u.vectors; profile = u.profile })
     x ps (record { table = refl; vectors = refl; profile = refl })
 
-pub unsound_unmoved : (x : Lent) (ps : List (List ℕ)) (k : ℕ) → check_area x.table (length x.profile) ≡ Bad k → Unmoved x (lent_after x ps)
+pub unsound_unmoved : (x : Lent) (ps : List (List ℕ)) (k : ℕ) → check_area x.table (length x.profile) ≡ Err k → Unmoved x (lent_after x ps)
 unsound_unmoved x ps k e =
     unmoved x (λ y p u. table_refused (table_only y) k (sym (check_in_lem y) ∙ rw (u.table, u.profile) e) p) ps
 
-pub spoilt_unmoved : (x : Lent) (ps : List (List ℕ)) (k : ℕ) → check_vectors x.vectors ≡ Bad k → Unmoved x (lent_after x ps)
+pub spoilt_unmoved : (x : Lent) (ps : List (List ℕ)) (k : ℕ) → check_vectors x.vectors ≡ Err k → Unmoved x (lent_after x ps)
 spoilt_unmoved x ps k e = unmoved x (λ y p u. vectors_refused (table_only y) k (rw u.vectors e) p) ps

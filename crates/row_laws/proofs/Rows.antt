@@ -2,11 +2,11 @@
 -- whether records were altered and vectors marked, for anything lent. The file of requests is lent as the request, `answers` as the buffer.
 -- What the words below mean is in specs/Turns (the requests in turn), specs/Reads (the word read back), and report_numbers/specs/File and Turns (a file of
 -- requests, and one in its place).
+use Rattle.std.specs.Prelude.{Ok, Err}
 use Rattle.octets.specs.Standard.{ℕ, ◌+◌, ◌*◌, ◌/◌, ◌≤◌, ◌<◌, List, [], ◌∷◌, ◌++◌, true, false, none, ◌≡◌, refl, sym, ap, ◌∙◌, ◌⊎◌, ◌≢◌, arith}
 use Rattle.octets.specs.Standard.{length, get_or, take, drop, drop_at, length-append, length-drop, or-false, eqb, ltb}
 use Rattle.blocks.specs.Blocks.{block_of}
 use Rattle.blocks.specs.Changed.{is_one}
-use Rattle.blocks.specs.declared.Checked.TheVariants.{Sound, Bad}
 use Rattle.table.specs.Area.{table_in, check_area}
 use Rattle.vectors.specs.VectorFile.{check_vectors}
 use Rattle.rewrite.specs.Keeps.{alterable}
@@ -176,12 +176,12 @@ module _ (x : Lent) (ws : List ℕ) where
       ∙ flags.none_same (λ y. marks y) (λ y. y.vectors) flags.unmarked_same x (served_of x ws) (sym marked_is ∙ e)
 
   -- Over an unsound table or an unsound vector file nothing is altered.
-  pub row_unsound : (k : ℕ) → check_area x.table (length x.profile) ≡ Bad k → ((rowed x ws).table ≡ x.table) × ((rowed x ws).vectors ≡ x.vectors)
+  pub row_unsound : (k : ℕ) → check_area x.table (length x.profile) ≡ Err k → ((rowed x ws).table ≡ x.table) × ((rowed x ws).vectors ≡ x.vectors)
   row_unsound k e =
       let u = flags.unsound_unmoved x (served_of x ws) k e in
       (ap (λ (r : Rowed). r.table) row_is_calls ∙ u.table, ap (λ (r : Rowed). r.vectors) row_is_calls ∙ u.vectors)
 
-  pub row_unsound_vectors : (k : ℕ) → check_vectors x.vectors ≡ Bad k → ((rowed x ws).table ≡ x.table) × ((rowed x ws).vectors ≡ x.vectors)
+  pub row_unsound_vectors : (k : ℕ) → check_vectors x.vectors ≡ Err k → ((rowed x ws).table ≡ x.table) × ((rowed x ws).vectors ≡ x.vectors)
   row_unsound_vectors k e =
       let u = flags.spoilt_unmoved x (served_of x ws) k e in
       (ap (λ (r : Rowed). r.table) row_is_calls ∙ u.table, ap (λ (r : Rowed). r.vectors) row_is_calls ∙ u.vectors)
@@ -259,7 +259,7 @@ module _ (x : Lent) (ws : List ℕ) where
         × ((lent_after x (p.before ++ (p.request ∷ []))).vectors ≡ (lent_after x p.before).vectors)
     row_demand_2_refusal e = let k = demand_1_kept (lent_to x p) e in turns.turn_leaves x ws p k.0 k.1
 
-    pub row_demand_2_failure : (count : ℕ) → check_area (lent_to x p).table (length (lent_to x p).profile) ≡ Sound count
+    pub row_demand_2_failure : (count : ℕ) → check_area (lent_to x p).table (length (lent_to x p).profile) ≡ Ok count
         → succeeds (decision (table_only (lent_to x p)) count).given.verdict.result ≡ false
         → ((lent_after x (p.before ++ (p.request ∷ []))).table ≡ (lent_after x p.before).table)
         × ((lent_after x (p.before ++ (p.request ∷ []))).vectors ≡ (lent_after x p.before).vectors)
@@ -277,11 +277,11 @@ module _ (x : Lent) (ws : List ℕ) where
   -- Over an area with a sound table of `count` records at its front: it is sound after the row, with as many; a record that the row changed is of a
   -- subscription that one of its requests asked about; the header stays, blocks past the count stay, and of the others only state, pending, server name and
   -- check word change.
-  module _ (count : ℕ) (sound : check_area x.table (length x.profile) ≡ Sound count) where
+  module _ (count : ℕ) (sound : check_area x.table (length x.profile) ≡ Ok count) where
     stays : calls.Stays x count (lent_after x (served_of x ws))
     stays = calls.after_stays x (served_of x ws) count sound
 
-    pub row_demand_2_sound : check_area (rowed x ws).table (length x.profile) ≡ Sound count
+    pub row_demand_2_sound : check_area (rowed x ws).table (length x.profile) ≡ Ok count
     row_demand_2_sound =
         ap (λ (r : Rowed). check_area r.table (length x.profile)) row_is_calls
         ∙ ap (λ (f : List ℕ). check_area (lent_after x (served_of x ws)).table (length f)) (sym (calls.after_alike x (served_of x ws)).profile)

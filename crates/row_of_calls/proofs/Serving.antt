@@ -1,9 +1,10 @@
 -- One request of a row: the call over a table of the exact length, made from what the checks said before.
+use Rattle.std.specs.Prelude.{Result, Ok, Err}
+use Rattle.refusals.specs.declared.Refusal.{Refusal}
 use Rattle.octets.specs.Standard.{ℕ, ◌+◌, ◌≤◌, List, Bool, not, ◌≡◌, refl, sym, ap, ◌∙◌, subst, arith, length, drop, length-append, ltb}
 use Rattle.octets.specs.Name.{same}
 use Rattle.octets.specs.Run.{over, Wrote}
 use Rattle.octets.proofs.Names.{same_refl}
-use Rattle.blocks.specs.declared.Checked.{Checked}
 use Rattle.table.specs.Area.{size_in}
 use Rattle.table.specs.Check.{check_table}
 use Rattle.table.proofs.Areas.{in_all}
@@ -17,7 +18,6 @@ use Rattle.calling.specs.Lent.{Lent, lent, holding, table_only}
 use Rattle.refusals.specs.Early.{check_value}
 use Rattle.calling.specs.Serve.{Served, check_of, refused, answer_of, answered_by, decided, result_of, serve_table, serve}
 use Rattle.calling.specs.Leaves.{call_of, Leaves}
-use Rattle.calling.specs.declared.Came.{Came}
 use Rattle.calling.proofs.Areas.{serve_exact}
 use Rattle.calling.proofs.Kept.{serve_by_lem}
 use Rattle.reporting.specs.Row.{records_altered}
@@ -26,7 +26,6 @@ use Rattle.row_of_calls.specs.Row.{answer_length}
 use Rattle.row_of_calls.specs.Leaves.{marks_from, done_from, Serves}
 use Rattle.row_of_calls.specs.declared.Done.{Done}
 use Rattle.row_of_calls.proofs.Marking.{decided_marks}
-use Rattle.calling.specs.declared.Came.TheVariants as came
 
 -- what a call comes to is one of two
 abbrev IsAnswer : Call → Type 0
@@ -37,7 +36,7 @@ abbrev IsRefusal : Call → Type 0
 IsRefusal (Answered a) = ⊥
 IsRefusal (Refused number besides) = Unit
 
-pub done_answered : (c : Came) (told : Told) {marked : Bool} → c ≡ came.Answered told → marked ≡ marks_from told.command told.result
+pub done_answered : (c : Result Told Refusal) (told : Told) {marked : Bool} → c ≡ Ok told → marked ≡ marks_from told.command told.result
     → ◌≡◌ {A = Done} (record { used = told.length; altered = ltb 0 told.altered; marked = marked }) (done_from c)
 done_answered c told e f = rw (e, f)
 
@@ -72,14 +71,14 @@ module _ (x : Lent) where
     altered_is : d.altered ≡ ltb 0 (records_altered x)
     marked_is : d.marked ≡ not (same x.vectors (serve_table x).vectors)
 
-  adds : (r : Came) {t' v' o' : List ℕ} → Leaves x (serve_table x) (check_value (check_of x)) r t' v' o' → Adds (done_from r)
-  adds (came.Answered told) l =
+  adds : (r : Result Told Refusal) {t' v' o' : List ℕ} → Leaves x (serve_table x) (check_value (check_of x)) r t' v' o' → Adds (done_from r)
+  adds (Ok told) l =
       record {
         used_is = ap answer_length l.call_is;
         altered_is = rw (l.noted.2, l.table_is);
         marked_is = rw (l.noted.0, l.noted.1) (answered_marks (rw (← l.call_is) tt));
       }
-  adds (came.Refused number besides) l =
+  adds (Err r) l =
       let k = refused_keeps (rw (← l.call_is) tt) in
       record {
         used_is = ap answer_length l.call_is;
@@ -88,7 +87,7 @@ module _ (x : Lent) where
       }
 
 -- The same, as the code has it.
-module _ (req t file v o : List ℕ) (terms : Terms) (c : Checked) (checked : c ≡ check_table t (length file)) (exact : length t ≤ size_in t) (r : Came)
+module _ (req t file v o : List ℕ) (terms : Terms) (c : Result ℕ ℕ) (checked : c ≡ check_table t (length file)) (exact : length t ≤ size_in t) (r : Result Told Refusal)
     {t' v' o' : List ℕ} (l : Leaves (lent req t file v o terms) (serve_table (lent req t file v o terms)) (check_value c) r t' v' o') where
   abbrev x : Lent
   x = lent req t file v o terms

@@ -1,10 +1,10 @@
 -- The turns of a row: what is behind and what is to come make the whole.
+use Rattle.std.specs.Prelude.{Result}
 use Rattle.octets.specs.Standard.{ℕ, ◌+◌, ◌-◌, ◌*◌, ◌≤◌, ◌<◌, List, [], ◌∷◌, ◌++◌, Bool, true, false, ◌||◌, or-false, or_assoc, ◌≡◌, refl, sym, ap, ◌∙◌}
 use Rattle.octets.specs.Standard.{append_assoc, zero-add, arith, length, take, drop, length-take, length-take-le, length-drop, drop-drop, drop_at}
 use Rattle.octets.specs.Standard.{take_at, take-add, take-append-drop, eq-eqb, ne_eqb, eqb-false, leb, leb-true, leb-false}
 use Rattle.octets.specs.Standard.{eqb, ltb, ltb-false}
 use Rattle.octets.specs.Run.{over}
-use Rattle.blocks.specs.declared.Checked.{Checked}
 use Rattle.table.specs.Area.{size_in}
 use Rattle.table.specs.Check.{check_table}
 use Rattle.vectors.specs.VectorFile.{check_vectors}
@@ -251,10 +251,10 @@ module _ (req t file v a : List ℕ) (terms : Terms) (w : List ℕ) (used served
   pub turn_exact : length t' ≤ size_in t'
   turn_exact = let l : AsLarge t (serve_table here_lent).table = served_large here_lent in rw table_now (omega (arith, l.bytes, l.counts, exact))
 
-  pub turn_table : {c : Checked} → c ≡ check_table t (length file) → c ≡ check_table t' (length file)
+  pub turn_table : {c : Result ℕ ℕ} → c ≡ check_table t (length file) → c ≡ check_table t' (length file)
   turn_table e = e ∙ sym (table_checked here_lent) ∙ rw table_now
 
-  pub turn_vectors : {c : Checked} → c ≡ check_vectors v → c ≡ check_vectors v'
+  pub turn_vectors : {c : Result ℕ ℕ} → c ≡ check_vectors v → c ≡ check_vectors v'
   turn_vectors e =
       e ∙ sym (vectors_checked here_lent) ∙ ap check_vectors (sym (q.vectors_is ∙ ap (λ (s : Served). s.vectors) (serve_exact here_lent exact)))
 

@@ -1,14 +1,15 @@
 -- The word of a call as bytes: the number and the place in its first four, the value in its last four.
 use Rattle.octets.specs.Standard.{ℕ, ◌+◌, ◌*◌, ◌/◌, ◌%◌, ◌≤◌, ◌<◌, List, [], ◌∷◌, ◌≡◌, arith, length}
+use Rattle.std.specs.Prelude.{Result, Ok, Err}
+use Rattle.refusals.specs.declared.Refusal.{Refusal}
+use Rattle.refusals.specs.Numbers.{number_of, value_of}
 use Rattle.octets.specs.Number.{put_be32}
 use Rattle.octets.specs.Run.{Wrote}
 use Rattle.octets.proofs.Writes.{over_sets}
 use Rattle.counting.specs.Words.{long_bytes}
 use Rattle.deciding.specs.declared.Told.{Told}
 use Rattle.calling.specs.Leaves.{call_of}
-use Rattle.calling.specs.declared.Came.{Came}
 use Rattle.row_of_calls.specs.Word.{word, call_word}
-use Rattle.calling.specs.declared.Came.TheVariants as came
 
 -- a byte of the lower half
 low : (h v : ℕ) → (h * 256 + v) % 256 ≡ v % 256
@@ -59,11 +60,11 @@ word_written number place value out small room e f =
     rw (q, f, e) (halves_written (number * 65536 + place) value small out room)
 
 -- by what a call came to
-module _ (c : Came) {out out' : List ℕ} where
-  pub answer_written : (told : Told) → c ≡ came.Answered told → Wrote (long_bytes (word 0 told.place told.length)) out out' 8
+module _ (c : Result Told Refusal) {out out' : List ℕ} where
+  pub answer_written : (told : Told) → c ≡ Ok told → Wrote (long_bytes (word 0 told.place told.length)) out out' 8
       → Wrote (long_bytes (call_word (call_of c))) out out' 8
   answer_written told e w = rw e w
 
-  pub refusal_written : (number besides : ℕ) → c ≡ came.Refused number besides → Wrote (long_bytes (word number 0 besides)) out out' 8
-      → Wrote (long_bytes (call_word (call_of c))) out out' 8
-  refusal_written number besides e w = rw e w
+  pub refusal_written : (r : Refusal) {number besides : ℕ} → c ≡ Err r → number ≡ number_of r → besides ≡ value_of r
+      → Wrote (long_bytes (word number 0 besides)) out out' 8 → Wrote (long_bytes (call_word (call_of c))) out out' 8
+  refusal_written r e f g w = rw (e, ← f, ← g) w

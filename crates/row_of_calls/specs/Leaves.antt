@@ -1,13 +1,13 @@
 -- What the code of a row goes by, and what each step of it leaves.
-use Rattle.std.specs.Prelude.{ℕ, ◌+◌, ◌*◌, ◌≤◌, ◌≡◌, Bool, false, ◌&&◌, List, ◌++◌, length, take, drop, eqb, ltb}
+use Rattle.std.specs.Prelude.{ℕ, ◌+◌, ◌*◌, ◌≤◌, ◌≡◌, Bool, false, ◌&&◌, List, ◌++◌, length, take, drop, eqb, ltb, Result, Ok, Err}
+use Rattle.refusals.specs.declared.Refusal.{Refusal}
+use Rattle.deciding.specs.declared.Told.{Told}
 use Rattle.octets.specs.Run.{over, Wrote}
 use Rattle.reading.specs.declared.Outcome.{Outcome}
 use Rattle.reading.specs.declared.Outcome.TheVariants.{Base, Experimental}
 use Rattle.counting.specs.Words.{long_bytes}
 use Rattle.calling.specs.Lent.{Lent, lent}
 use Rattle.calling.specs.Serve.{serve}
-use Rattle.calling.specs.declared.Came.{Came}
-use Rattle.calling.specs.declared.Came.TheVariants as came
 use Rattle.row_of_calls.specs.Word.{call_word}
 use Rattle.row_of_calls.specs.Row.{Rowed, answer_length, alters, marks}
 use Rattle.row_of_calls.specs.declared.Done.{Done}
@@ -19,9 +19,9 @@ marks_from command (Base n) = eqb command 303 && eqb n 2001
 marks_from command (Experimental n) = false
 
 -- what a call does in a row, from what the code says of it
-abbrev pub done_from : Came → Done
-done_from (came.Answered told) = record { used = told.length; altered = ltb 0 told.altered; marked = marks_from told.command told.result }
-done_from (came.Refused number besides) = record { used = 0; altered = false; marked = false }
+abbrev pub done_from : Result Told Refusal → Done
+done_from (Ok told) = record { used = told.length; altered = ltb 0 told.altered; marked = marks_from told.command told.result }
+done_from (Err r) = record { used = 0; altered = false; marked = false }
 
 -- how a row ends
 abbrev pub ended_so : ℕ → ℕ → Bool → Bool → Ended

@@ -12,9 +12,11 @@ ghost use Rattle.row_of_calls.specs.Word.{word, call_word};
 ghost use Rattle.row_of_calls.specs.Row.{no_room, rowed};
 ghost use Rattle.row_of_calls.specs.Leaves.{marks_from, done_from, ended_so, Serves, ServesAt, Rows};
 
-use calling::{Came, Shared};
+use calling::Shared;
+use deciding::Told;
 use octets::number;
 use reading::{Outcome, Terms, base};
+use refusals::Refusal;
 
 // The two ways in which a row does not end well, by their numbers.
 const STOPPED: u16 = 7;
@@ -64,11 +66,11 @@ fn marks(command: usize, res: Outcome) -> bool
 }
 
 // What a call does, from what is said of it.
-fn done_of(c: Came) -> Done
+fn done_of(c: Result<Told, Refusal>) -> Done
     ensures { result ≡ done_from c }
 {
     match c {
-        Came::Answered(told) => {
+        Ok(told) => {
             let result = told.result;
             Done {
                 used: told.length as usize,
@@ -76,10 +78,7 @@ fn done_of(c: Came) -> Done
                 marked: marks(told.command, result),
             }
         }
-        Came::Refused {
-            number: _,
-            besides: _,
-        } => Done {
+        Err(_) => Done {
             used: 0,
             altered: false,
             marked: false,
@@ -97,13 +96,13 @@ fn put_word(out: &mut [u8], number: u16, place: u16, value: u32)
 }
 
 // The word of a call.
-fn put_call(out: &mut [u8], c: Came)
+fn put_call(out: &mut [u8], c: Result<Told, Refusal>)
     requires { 8 ≤ length out.old }
     ensures { Wrote (long_bytes (call_word (call_of c))) out.old out.new 8 }
 {
     match c {
-        Came::Answered(told) => put_word(out, 0, told.place, told.length),
-        Came::Refused { number, besides } => put_word(out, number, 0, besides),
+        Ok(told) => put_word(out, 0, told.place, told.length),
+        Err(r) => put_word(out, r.number(), 0, r.value()),
     }
 }
 
@@ -189,7 +188,7 @@ fn ends(number: u16, served: usize, altered: bool, marked: bool) -> Ended
     }
 }
 
-// Every request of the file in turn, as far as there is room.
+// Every request of the file in turn, as far as there is room. By place: each says where the next one begins.
 fn run(
     k: Shared,
     requests: &[u8],

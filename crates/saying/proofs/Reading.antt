@@ -1,9 +1,9 @@
 -- A line read where it begins: the block that it says, and where the next one begins; and one read again.
 use Rattle.octets.specs.Standard.{ℕ, zero, suc, ◌+◌, ◌-◌, ◌*◌, ◌/◌, ◌%◌, ◌<◌, ◌≤◌, Bool, true, false, cond, ◌≡◌, refl, sym, ◌∙◌, ap, arith, add-one}
-use Rattle.octets.specs.Standard.{eqb, eqb-true, eqb-false, eq-eqb, ne_eqb, List, ◌++◌, append-nil, length, length-append}
-use Rattle.octets.specs.Standard.{length-drop, length-set, length-replicate, take, drop, get_or, set, replicate, get_or-set_same, get_or-set_other, drop_of_length-le}
+use Rattle.octets.specs.Standard.{eqb, eqb-true, eqb-false, eq-eqb, ne_eqb, List, ◌++◌, length, length-append}
+use Rattle.octets.specs.Standard.{length-drop, length-set, length-replicate, take, drop, get_or, set, replicate, get_or-set_same, get_or-set_other}
 use Rattle.octets.specs.Standard.{Option, none, some}
-use Rattle.octets.specs.Run.{over, Wrote}
+use Rattle.std.specs.Prelude.{None, Some}
 use Rattle.record.specs.Fields.{issue_of}
 use Rattle.quoting.specs.Quoted.{quoted}
 use Rattle.rows.specs.Row.{Row, line_of}
@@ -11,8 +11,8 @@ use Rattle.rows.specs.RowIn.{row_in, row_size}
 use Rattle.rows.specs.Block.{block_said}
 use Rattle.rows.proofs.Lines as line
 use Rattle.rows.proofs.Blocks.{said_length}
-use Rattle.parsing.specs.Parsed.{block_over}
-use Rattle.parsing.proofs.Fields.{part_end}
+use Rattle.parsing.specs.Parsed.{given, row_length, block_over}
+use Rattle.parsing.proofs.Fields.{part_end, Given, given_some, given_none}
 use Rattle.listing.proofs.Lists.{first_length_lem}
 use Rattle.importing.specs.Said.{place_of, said_at}
 use Rattle.saying.specs.Noted.{noted, Noted}
@@ -33,50 +33,40 @@ row_within s = go (row_in s) refl
         let f : s ≡ line_of r ++ drop (length (line_of r)) s = (line.written_read s r e).front in
         omega (arith, ap length f, length-append (line_of r) (drop (length (line_of r)) s))
 
-all_over : (n : ℕ) {b y : List ℕ} → Wrote (replicate n 0) b y n → length b ≡ n → y ≡ replicate n 0
-unfolding over
-all_over n {b = b} w e =
-    let z : List ℕ = replicate n 0 in
-    let l : length z ≡ n = length-replicate {A = ℕ} n 0 in
-    w.bytes ∙ rw (drop_of_length-le b {i = length z} (omega arith)) (append-nil z)
+-- The line behind n records, if one stands there.
+module _ (list header : List ℕ) (at n : ℕ) (p : at ≡ place_of list n) where
+  module _ {size : ℕ} (e : Some size ≡ given row_length (row_in (take (length list - at) (drop at list)))) where
+    read_some : Given row_length (row_in (drop at list)) size
+    read_some = given_some row_length _ (rw (part_end list at) at e)
 
--- The line behind n records.
-module _ (list header : List ℕ) (at n : ℕ) (p : at ≡ place_of list n) {size : ℕ}
-    (e : size ≡ row_size (row_in (take (length list - at) (drop at list)))) where
-  size_is : size ≡ row_size (row_in (drop at list))
-  size_is = e ∙ rw (part_end list at)
+    size_is : size ≡ row_size (row_in (drop at list))
+    size_is = rw read_some.is read_some.made
 
-  pub place_next : at + size ≡ place_of list (n + 1)
-  unfolding place_of
-  place_next = rw (add-one n, ← p, ← size_is)
+    pub place_next : at + size ≡ place_of list (n + 1)
+    unfolding place_of
+    place_next = rw (add-one n, ← p, ← size_is)
 
-  pub next_within : at ≤ length list → at + size ≤ length list
-  next_within h = omega (arith, size_is, row_within (drop at list), length-drop at list)
+    pub next_within : at ≤ length list → at + size ≤ length list
+    next_within h = omega (arith, size_is, row_within (drop at list), length-drop at list)
 
-  module _ (issue : ℕ) (b y : List ℕ) (i : issue ≡ issue_of header) (f : y ≡ block_over issue (n + 1) (row_in (take (length list - at) (drop at list))) b) where
-    pub said_line : (size ≡ 0 → ⊥) → y ≡ said_at list header (n + 1)
+    pub said_line : (issue : ℕ) (b y : List ℕ) → issue ≡ issue_of header → y ≡ block_over issue (n + 1) (row_in (take (length list - at) (drop at list))) b
+        → y ≡ said_at list header (n + 1)
     unfolding said_at
-    said_line z =
-        let q : row_size (row_in (drop at list)) ≡ 0 → ⊥ = λ w. z (size_is ∙ w) in
-        rw (add-one n, ← p) (go (row_in (drop at list)) refl q)
-      where
-        here : y ≡ block_over (issue_of header) (suc n) (row_in (drop at list)) b
-        here = f ∙ rw (part_end list at, i, add-one n)
+    said_line issue b y i f =
+        let here : y ≡ block_over (issue_of header) (suc n) (row_in (drop at list)) b = f ∙ rw (part_end list at, i, add-one n) in
+        rw (add-one n, ← p, read_some.is) (rw read_some.is at here)
 
-        go : (o : Option Row) → row_in (drop at list) ≡ o → (row_size o ≡ 0 → ⊥) → y ≡ block_said (issue_of header) (suc n) o
-        go none g w = absurd (w refl)
-        go (some r) g w = here ∙ rw g
+  module _ (e : None ≡ given row_length (row_in (take (length list - at) (drop at list)))) where
+    read_none : row_in (drop at list) ≡ none
+    read_none = given_none row_length _ (rw (part_end list at) at e)
 
-  pub said_none : (o : List ℕ) {c x : List ℕ} → size ≡ 0 → length o ≡ 512 → length c ≡ length o → Wrote (replicate 512 0) c x 512
-      → x ≡ said_at list header (n + 1)
-  unfolding said_at
-  said_none o {x = x} z l m w =
-      let q : row_size (row_in (drop at list)) ≡ 0 = sym size_is ∙ z in
-      rw (add-one n, ← p) (go (row_in (drop at list)) refl q)
-    where
-      go : (o : Option Row) → row_in (drop at list) ≡ o → row_size o ≡ 0 → x ≡ block_said (issue_of header) (suc n) o
-      go none g v = all_over 512 w (m ∙ l)
-      go (some r) g v = absurd (omega (arith, line_some r))
+    pub place_same : at + 0 ≡ place_of list (n + 1)
+    unfolding place_of
+    place_same = rw (add-one n, ← p, read_none)
+
+    pub said_none : replicate 512 0 ≡ said_at list header (n + 1)
+    unfolding said_at
+    said_none = rw (add-one n, ← p, read_none)
 
 -- every line begins within the list
 pub place_within : (list : List ℕ) (n : ℕ) → 121 ≤ length list → place_of list n ≤ length list

@@ -20,22 +20,24 @@ pub const FIRST: usize = 121;
 const STEP: usize = 32;
 
 // The block of record n + 1, whose line begins at a place, and how long that line is. Where no line of a list stands, zeros are said and nothing is passed over.
-pub fn read(out: &mut [u8], list: &[u8], at: usize, n: usize, header: &[u8]) -> usize
-    requires { (length out.old ≡ 512) × (length header.now ≡ 512) × (n < 4096) × (at ≡ place_of list.now n) × (at ≤ length list.now) }
+pub fn read(out: &mut [u8; 512], list: &[u8], at: usize, n: usize, header: &[u8; 512]) -> usize
+    requires { (n < 4096) × (at ≡ place_of list.now n) × (at ≤ length list.now) }
     ensures { (out.new ≡ said_at list.now header.now (n + 1)) × (at + result ≡ place_of list.now (n + 1))
         × (at + result ≤ length list.now) }
 {
     let issue = number::be32(header, Header::ISSUE_AT) as usize;
-    let size = parsing::block::read(out, &list[at..], n + 1, issue);
-    if size == 0 {
-        run::clear(out, BLOCK);
+    match parsing::block::read(out, &list[at..], n + 1, issue) {
+        Some(size) => size,
+        None => {
+            *out = [0; BLOCK];
+            0
+        }
     }
-    size
 }
 
 // Keeps the place of the line behind n records, if it is one of those that are kept.
-pub fn note(places: &mut [u32], n: usize, at: usize)
-    requires { (length places.old ≡ 128) × (n < 4096) × (at < 4294967296) }
+pub fn note(places: &mut [u32; 128], n: usize, at: usize)
+    requires { (n < 4096) × (at < 4294967296) }
     ensures { places.new ≡ noted places.old n at }
 {
     if n % STEP == 0 {
@@ -54,35 +56,31 @@ fn past(list: &[u8], at: usize) -> usize
     requires { at ≤ length list.now }
     ensures { (result ≡ at + line_size (drop at list.now)) × (result ≤ length list.now) }
 {
-    let mut i = at;
-    while i < list.len() {
+    for i in at..list.len() {
         if list[i] == LF {
             return i + 1;
         }
-        i += 1;
     }
-    i
+    list.len()
 }
 
 // The block of record k once more. From the last place kept before it lines are passed over, none of which is missing.
-pub fn again(out: &mut [u8], list: &[u8], places: &[u32], k: usize, header: &[u8])
-    requires { (length out.old ≡ 512) × (length header.now ≡ 512) × (1 ≤ k) × (k ≤ 4096) × (121 ≤ length list.now) × Noted list.now places.now k }
+pub fn again(out: &mut [u8; 512], list: &[u8], places: &[u32; 128], k: usize, header: &[u8; 512])
+    requires { (1 ≤ k) × (k ≤ 4096) × (121 ≤ length list.now) × Noted list.now places.now k }
     ensures { out.new ≡ said_at list.now header.now k }
 {
     let last = k - 1;
     let i = last / STEP;
     let mut at = wide(places[i]);
-    let mut n = STEP * i;
-    while n < last {
+    for _n in STEP * i..last {
         at = past(list, at);
-        n += 1;
     }
     read(out, list, at, last, header);
 }
 
 // Writes the blocks of the first records.
-fn put_records(out: &mut [u8], list: &[u8], count: usize, header: &[u8])
-    requires { (length header.now ≡ 512) × (count ≤ 4096) × (512 * count ≤ length out.old) × (121 ≤ length list.now) }
+fn put_records(out: &mut [u8], list: &[u8], count: usize, header: &[u8; 512])
+    requires { (count ≤ 4096) × (512 * count ≤ length out.old) × (121 ≤ length list.now) }
     ensures { Wrote (records_said list.now header.now count) out.old out.new (512 * count) }
 {
     let mut b = [0u8; BLOCK];
@@ -94,8 +92,8 @@ fn put_records(out: &mut [u8], list: &[u8], count: usize, header: &[u8])
 }
 
 // Writes the table that a list says.
-pub fn put_table(out: &mut [u8], list: &[u8], count: usize, header: &[u8])
-    requires { (length header.now ≡ 512) × (count ≡ count_of header.now) × (count ≤ 4096) × (512 * (count + 1) ≤ length out.old)
+pub fn put_table(out: &mut [u8], list: &[u8], count: usize, header: &[u8; 512])
+    requires { (count ≡ count_of header.now) × (count ≤ 4096) × (512 * (count + 1) ≤ length out.old)
         × (121 ≤ length list.now) }
     ensures { Wrote (table_said list.now header.now) out.old out.new (512 * (count + 1)) }
 {

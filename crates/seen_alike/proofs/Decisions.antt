@@ -1,12 +1,11 @@
 -- The questions of a UAR, a LIR and a MAR have one answer over tables of which they see the same, and what comes of it is given alike: one verdict, with things
 -- of records that are like each other.
+use Rattle.std.specs.Prelude.{Option, Some, None, Ok, Err}
 use Rattle.octets.specs.Standard.{ℕ, Bool, ◌≡◌, refl, inl, inr, List, ltb}
 use Rattle.blocks.specs.Blocks.{block_of}
 use Rattle.table.specs.Named.{private_at}
 use Rattle.vectors.specs.declared.choice.Sent.{Sent}
 use Rattle.lookup.specs.Find.{find_public, find_server, block_found}
-use Rattle.lookup.specs.declared.Found.{Found}
-use Rattle.lookup.specs.declared.Found.TheVariants.{At, Nothing}
 use Rattle.reading.specs.declared.Outcome.{Outcome}
 use Rattle.reading.specs.declared.Verdict.{Verdict}
 use Rattle.choices.specs.Challenges.{claim_of, challenge_of}
@@ -17,10 +16,8 @@ use Rattle.choices.specs.declared.choice.Choice.{Choice}
 use Rattle.choices.specs.declared.choice.Choice.TheVariants.{Alone, Server, Capabilities, First}
 use Rattle.choices.specs.declared.plan.Deed.{Deed}
 use Rattle.choices.specs.declared.plan.Deed.TheVariants.{Leave, Settle, Challenge}
-use Rattle.choices.specs.declared.plan.Finding.{Finding}
-use Rattle.choices.specs.declared.plan.Finding.TheVariants.{Denied, Fine}
 use Rattle.choices.specs.declared.plan.Plan.{Plan}
-use Rattle.choices.specs.Plans.{only}
+use Rattle.choices.specs.Plans.{Finding, only}
 use Rattle.questions.specs.Authentication.{claimed_at, claimed_of, to_send, authenticate_found, authenticate}
 use Rattle.questions.specs.Authorization.{asked_at, asked_of, authorize_found, authorize}
 use Rattle.questions.specs.Carried.{served_by, carried}
@@ -69,11 +66,11 @@ module _ (Like : ℕ → ℕ → Type 0) where
   pub only_alike : (g h : Given) → GivenAlike Like g h → PlanAlike Like (only g) (only h)
   only_alike g h a = record { given = a; deed = tt }
 
-  found_block : (f g : Found) → FoundAlike Like f g → BlockAlike Like (block_found f) (block_found g)
-  found_block (At j) (At k) l = inr l
-  found_block (At j) Nothing l = absurd l
-  found_block Nothing (At k) l = absurd l
-  found_block Nothing Nothing l = none_alike
+  found_block : (f g : Option ℕ) → FoundAlike Like f g → BlockAlike Like (block_found f) (block_found g)
+  found_block (Some j) (Some k) l = inr l
+  found_block (Some j) None l = absurd l
+  found_block None (Some k) l = absurd l
+  found_block None None l = none_alike
 
   server_given : (r : Outcome) (j k : ℕ) → BlockAlike Like j k → GivenAlike Like (given_server r j) (given_server r k)
   server_given r j k l = of_alike (blameless r) 0 j 0 0 0 k 0 0 none_alike l none_alike none_alike
@@ -91,15 +88,15 @@ module _ {file other t u : List ℕ} {count many : ℕ} {Like : ℕ → ℕ → 
   carried_alike user a j k l (Capabilities r) = capable_given Like r j k l
   carried_alike user a j k l (First r s) = go (find_server t count user) (find_server u many user) (server_alike sight user a)
     where
-      go : (f g : Found) → FoundAlike Like f g → GivenAlike Like (served_by f r s j) (served_by g r s k)
-      go (At m) (At n) h = server_given Like r m n (inr h)
-      go (At m) Nothing h = absurd h
-      go Nothing (At n) h = absurd h
-      go Nothing Nothing h = capable_given Like s j k l
+      go : (f g : Option ℕ) → FoundAlike Like f g → GivenAlike Like (served_by f r s j) (served_by g r s k)
+      go (Some m) (Some n) h = server_given Like r m n (inr h)
+      go (Some m) None h = absurd h
+      go None (Some n) h = absurd h
+      go None None h = capable_given Like s j k l
 
   -- UAR
   asked_alike : (user network : List ℕ) → Private user → (j k : ℕ) → Like j k → Private (private_at t j)
-      → asked_of t count user network (At j) ≡ asked_of u many user network (At k)
+      → asked_of t count user network (Some j) ≡ asked_of u many user network (Some k)
   unfolding asked_of asked_at private_at
   asked_alike user network a j k l own =
       let s : SameRecord file other (block_of t j) (block_of u k) = sight.shown j k l in
@@ -112,19 +109,19 @@ module _ {file other t u : List ℕ} {count many : ℕ} {Like : ℕ → ℕ → 
       )
 
   unknown_alike : (user network : List ℕ) (kind : ℕ) → Private user
-      → GivenAlike Like (authorize_found t count user network kind Nothing) (authorize_found u many user network kind Nothing)
+      → GivenAlike Like (authorize_found t count user network kind None) (authorize_found u many user network kind None)
   unfolding authorize_found asked_of
-  unknown_alike user network kind a = carried_alike user a 0 0 (none_alike Like) (authorization (asked_of t count user network Nothing) kind)
+  unknown_alike user network kind a = carried_alike user a 0 0 (none_alike Like) (authorization (asked_of t count user network None) kind)
 
-  authorized : (user network : List ℕ) (kind : ℕ) → Private user → (f g : Found) → FoundAlike Like f g → ((k : ℕ) → f ≡ At k → Private (private_at t k))
+  authorized : (user network : List ℕ) (kind : ℕ) → Private user → (f g : Option ℕ) → FoundAlike Like f g → ((k : ℕ) → f ≡ Some k → Private (private_at t k))
       → GivenAlike Like (authorize_found t count user network kind f) (authorize_found u many user network kind g)
   unfolding authorize_found
-  authorized user network kind a (At j) (At k) l own =
+  authorized user network kind a (Some j) (Some k) l own =
       rw (← asked_alike user network a j k l (own j refl))
-      (carried_alike user a j k (inr l) (authorization (asked_of t count user network (At j)) kind))
-  authorized user network kind a (At j) Nothing l own = absurd l
-  authorized user network kind a Nothing (At k) l own = absurd l
-  authorized user network kind a Nothing Nothing l own = unknown_alike user network kind a
+      (carried_alike user a j k (inr l) (authorization (asked_of t count user network (Some j)) kind))
+  authorized user network kind a (Some j) None l own = absurd l
+  authorized user network kind a None (Some k) l own = absurd l
+  authorized user network kind a None None l own = unknown_alike user network kind a
 
   pub authorize_alike : (user public network : List ℕ) (kind : ℕ) → Public public → Private user
       → GivenAlike Like (authorize t count user public network kind) (authorize u many user public network kind)
@@ -133,22 +130,22 @@ module _ {file other t u : List ℕ} {count many : ℕ} {Like : ℕ → ℕ → 
       authorized user network kind a (find_public t count public) (find_public u many public) (sight.found public p) (sight.owner public p)
 
   -- LIR
-  there_alike : (j k : ℕ) → Like j k → Private (private_at t j) → GivenAlike Like (locate_found t count (At j)) (locate_found u many (At k))
+  there_alike : (j k : ℕ) → Like j k → Private (private_at t j) → GivenAlike Like (locate_found t count (Some j)) (locate_found u many (Some k))
   unfolding locate_found sought_of sought_at private_at
   there_alike j k l own =
       let s : SameRecord file other (block_of t j) (block_of u k) = sight.shown j k l in
-      rw (← s.private, ← s.state, ← s.bits) (carried_alike (private_at t j) own j k (inr l) (location (sought_of t (At j))))
+      rw (← s.private, ← s.state, ← s.bits) (carried_alike (private_at t j) own j k (inr l) (location (sought_of t (Some j))))
 
-  absent_alike : GivenAlike Like (locate_found t count Nothing) (locate_found u many Nothing)
+  absent_alike : GivenAlike Like (locate_found t count None) (locate_found u many None)
   unfolding locate_found sought_of location carried
   absent_alike = fault_alike Like _
 
-  located : (f g : Found) → FoundAlike Like f g → ((k : ℕ) → f ≡ At k → Private (private_at t k))
+  located : (f g : Option ℕ) → FoundAlike Like f g → ((k : ℕ) → f ≡ Some k → Private (private_at t k))
       → GivenAlike Like (locate_found t count f) (locate_found u many g)
-  located (At j) (At k) l own = there_alike j k l (own j refl)
-  located (At j) Nothing l own = absurd l
-  located Nothing (At k) l own = absurd l
-  located Nothing Nothing l own = absent_alike
+  located (Some j) (Some k) l own = there_alike j k l (own j refl)
+  located (Some j) None l own = absurd l
+  located None (Some k) l own = absurd l
+  located None None l own = absent_alike
 
   pub locate_alike : (public : List ℕ) → Public public → GivenAlike Like (locate t count public) (locate u many public)
   unfolding locate
@@ -157,8 +154,8 @@ module _ {file other t u : List ℕ} {count many : ℕ} {Like : ℕ → ℕ → 
   -- MAR, with the same vectors
   challenged_alike : (f : Finding) (sent : Sent) (j k : ℕ) → Like j k → PlanAlike Like (challenge_of f j sent) (challenge_of f k sent)
   unfolding challenge_of
-  challenged_alike (Denied r) sent j k l = only_alike Like (given_plain r) (given_plain r) (fault_alike Like (blameless r))
-  challenged_alike Fine sent j k l =
+  challenged_alike (Err r) sent j k l = only_alike Like (given_plain r) (given_plain r) (fault_alike Like (blameless r))
+  challenged_alike (Ok done) sent j k l =
       record {
         given =
             record {
@@ -174,24 +171,24 @@ module _ {file other t u : List ℕ} {count many : ℕ} {Like : ℕ → ℕ → 
       }
 
   claimed_alike : (user asked : List ℕ) (some : Bool) → Private user → (j k : ℕ) → Like j k
-      → claimed_of t count user asked some (At j) ≡ claimed_of u many user asked some (At k)
+      → claimed_of t count user asked some (Some j) ≡ claimed_of u many user asked some (Some k)
   unfolding claimed_of claimed_at
   claimed_alike user asked some a j k l = rw (private_known sight user a, (sight.shown j k l).private)
 
   unclaimed_alike : (user asked : List ℕ) (sent : Sent)
-      → PlanAlike Like (authenticate_found t count user asked sent Nothing) (authenticate_found u many user asked sent Nothing)
+      → PlanAlike Like (authenticate_found t count user asked sent None) (authenticate_found u many user asked sent None)
   unfolding authenticate_found claimed_of claim_of challenge_of
   unclaimed_alike user asked sent = only_alike Like _ _ (fault_alike Like _)
 
-  authenticated : (user asked : List ℕ) (sent : Sent) → Private user → (f g : Found) → FoundAlike Like f g
+  authenticated : (user asked : List ℕ) (sent : Sent) → Private user → (f g : Option ℕ) → FoundAlike Like f g
       → PlanAlike Like (authenticate_found t count user asked sent f) (authenticate_found u many user asked sent g)
   unfolding authenticate_found
-  authenticated user asked sent a (At j) (At k) l =
+  authenticated user asked sent a (Some j) (Some k) l =
       rw (← claimed_alike user asked (ltb 0 sent.count) a j k l)
-      (challenged_alike (claim_of (claimed_of t count user asked (ltb 0 sent.count) (At j))) sent j k l)
-  authenticated user asked sent a (At j) Nothing l = absurd l
-  authenticated user asked sent a Nothing (At k) l = absurd l
-  authenticated user asked sent a Nothing Nothing l = unclaimed_alike user asked sent
+      (challenged_alike (claim_of (claimed_of t count user asked (ltb 0 sent.count) (Some j))) sent j k l)
+  authenticated user asked sent a (Some j) None l = absurd l
+  authenticated user asked sent a None (Some k) l = absurd l
+  authenticated user asked sent a None None l = unclaimed_alike user asked sent
 
   pub authenticate_alike : (v user public asked : List ℕ) (number : ℕ) → Public public → Private user
       → PlanAlike Like (authenticate t count v user public asked number) (authenticate u many v user public asked number)

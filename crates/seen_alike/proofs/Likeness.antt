@@ -1,11 +1,10 @@
 -- Two sound tables of as many records that agree in every byte that a request can see: every call comes to the same, with the same vectors and the same
 -- buffer, and leaves tables that are alike again. What `AlikeTables` means is in specs/Alike; `holding` and `SameCall`
 -- are calling's, in Lent and Serve.
+use Rattle.std.specs.Prelude.{Result, Ok}
 use Rattle.octets.specs.Standard.{ℕ, Bool, true, false, cond, ◌≡◌, refl, sym, ◌∙◌, ap, List, [], ◌∷◌, length}
 use Rattle.octets.proofs.Numbers.{Bytes}
 use Rattle.table.specs.SoundTable.{SoundTable}
-use Rattle.blocks.specs.declared.Checked.{Checked}
-use Rattle.blocks.specs.declared.Checked.TheVariants.{Sound}
 use Rattle.rewrite.specs.Change.{altered_up_to}
 use Rattle.rewrite.proofs.Counts.{altered_none}
 use Rattle.reading.specs.Rules.{Seen}
@@ -70,7 +69,7 @@ tried_both P give other o p f h (r ∷ rs) = go r.holds (tried_both P give other
     go false next = next
 
 -- A call, and the same call over a table that is alike; both are sound.
-module _ (x : Lent) (u : List ℕ) (count : ℕ) (first : check_of x ≡ Sound count) (second : check_of (holding x u) ≡ Sound count)
+module _ (x : Lent) (u : List ℕ) (count : ℕ) (first : check_of x ≡ Ok count) (second : check_of (holding x u) ≡ Ok count)
     (alike : AlikeTables x.table u count) where
   sound : SoundTable x.table count
   sound = record { file = length x.profile; checked = first }
@@ -106,9 +105,9 @@ module _ (x : Lent) (u : List ℕ) (count : ℕ) (first : check_of x ≡ Sound c
   -- what the report counts besides: the result, and the records altered
   pub result_alike : result_of x ≡ result_of (holding x u)
   result_alike =
-      ap (λ (c : Checked). (decision x (check_value c)).given.verdict.result) first
+      ap (λ (c : Result ℕ ℕ). (decision x (check_value c)).given.verdict.result) first
       ∙ ap (λ (g : Given). g.verdict.result) (given_alike x.table u count sound alike (dialect_in x) x.request x.vectors)
-      ∙ sym (ap (λ (c : Checked). (decision (holding x u) (check_value c)).given.verdict.result) second)
+      ∙ sym (ap (λ (c : Result ℕ ℕ). (decision (holding x u) (check_value c)).given.verdict.result) second)
 
   pub serve_altered : Bytes x.table → Bytes u → altered_up_to x.table (serve_table x).table count ≡ altered_up_to u (serve_table (holding x u)).table count
   unfolding refused answered_by

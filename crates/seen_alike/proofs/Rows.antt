@@ -1,36 +1,35 @@
 -- Rows of block numbers that are like each other one by one: what a look-up finds first in them, and what is left of them by a test.
+use Rattle.std.specs.Prelude.{Option, Some, None}
 use Rattle.octets.specs.Standard.{ℕ, zero, suc, ◌+◌, ◌≤◌, Bool, true, false, cond, ◌&&◌, ◌≡◌, refl, sym, ◌∙◌, List, [], ◌∷◌, ◌++◌, arith, add-suc}
 use Rattle.octets.specs.Standard.{suc-add}
 use Rattle.lookup.specs.Find.{first_from, is_at}
-use Rattle.lookup.specs.declared.Found.{Found}
-use Rattle.lookup.specs.declared.Found.TheVariants.{At, Nothing}
 use Rattle.diameter.specs.Put.{All}
 use Rattle.assignment.specs.Assignment.{every, is_empty}
 use Rattle.seen_alike.specs.Shown.{numbers_up_to, Each, FoundAlike}
 
 -- the first of a row
-abbrev head_of : List ℕ → Found
-head_of [] = Nothing
-head_of (k ∷ ks) = At k
+abbrev head_of : List ℕ → Option ℕ
+head_of [] = None
+head_of (k ∷ ks) = Some k
 
-abbrev or_else : Found → Found → Found
-or_else (At k) f = At k
-or_else Nothing f = f
+abbrev or_else : Option ℕ → Option ℕ → Option ℕ
+or_else (Some k) f = Some k
+or_else None f = f
 
 head_append : (js ks : List ℕ) → head_of (js ++ ks) ≡ or_else (head_of js) (head_of ks)
 head_append [] ks = refl
 head_append (j ∷ js) ks = refl
 
-here : (p : ℕ → Bool) (k : ℕ) → Found
-here p k = cond (p k) (At k) Nothing
+here : (p : ℕ → Bool) (k : ℕ) → Option ℕ
+here p k = cond (p k) (Some k) None
 
 first_more : (p : ℕ → Bool) (n k : ℕ) → first_from p (suc n) k ≡ or_else (first_from p n k) (here p (k + n))
 unfolding first_from here
 first_more p zero k = let e : k + zero ≡ k = omega arith in rw e
 first_more p (suc n) k = rw (first_more p n (suc k), add-suc k n, suc-add k n) (go (p k))
   where
-    go : (x : Bool) → cond x (At k) (or_else (first_from p n (suc k)) (here p (suc (k + n))))
-        ≡ or_else (cond x (At k) (first_from p n (suc k))) (here p (suc (k + n)))
+    go : (x : Bool) → cond x (Some k) (or_else (first_from p n (suc k)) (here p (suc (k + n))))
+        ≡ or_else (cond x (Some k) (first_from p n (suc k))) (here p (suc (k + n)))
     go true = refl
     go false = refl
 
@@ -41,16 +40,16 @@ first_head p (suc n) =
     let e : 1 + n ≡ suc n = omega arith in
     first_more p n 1 ∙ rw (e, head_append (numbers_up_to p n) (cond (p (suc n)) (suc n ∷ []) []), ← first_head p n) (go (p (suc n)))
   where
-    go : (x : Bool) → or_else (first_from p n 1) (cond x (At (suc n)) Nothing) ≡ or_else (first_from p n 1) (head_of (cond x (suc n ∷ []) []))
+    go : (x : Bool) → or_else (first_from p n 1) (cond x (Some (suc n)) None) ≡ or_else (first_from p n 1) (head_of (cond x (suc n ∷ []) []))
     go true = refl
     go false = refl
 
 -- what holds of every number of a row holds of the one that is found
-head_all : (P : ℕ → Type 0) (ks : List ℕ) (k : ℕ) → All P ks → head_of ks ≡ At k → P k
+head_all : (P : ℕ → Type 0) (ks : List ℕ) (k : ℕ) → All P ks → head_of ks ≡ Some k → P k
 head_all P [] k a e = let z : ◌≡◌ {A = ℕ} 0 1 = cc in absurd (omega arith)
 head_all P (j ∷ ks) k a e = let i : j ≡ k = cc in rw (← i) a.0
 
-pub first_all : (P : ℕ → Type 0) (p : ℕ → Bool) (n k : ℕ) → All P (numbers_up_to p n) → first_from p n 1 ≡ At k → P k
+pub first_all : (P : ℕ → Type 0) (p : ℕ → Bool) (n k : ℕ) → All P (numbers_up_to p n) → first_from p n 1 ≡ Some k → P k
 first_all P p n k a e = head_all P (numbers_up_to p n) k a (sym (first_head p n) ∙ e)
 
 -- what a test leaves of a row
@@ -114,11 +113,11 @@ module _ (Like : ℕ → ℕ → Type 0) where
   first_each p q count many e = rw (first_head p count, first_head q many) (head_each (numbers_up_to p count) (numbers_up_to q many) e)
 
   -- whether something was found; whether a test holds of all; whether there is none
-  pub at_each : (f g : Found) → FoundAlike Like f g → is_at f ≡ is_at g
-  at_each (At j) (At k) l = refl
-  at_each (At j) Nothing l = absurd l
-  at_each Nothing (At k) l = absurd l
-  at_each Nothing Nothing l = refl
+  pub at_each : (f g : Option ℕ) → FoundAlike Like f g → is_at f ≡ is_at g
+  at_each (Some j) (Some k) l = refl
+  at_each (Some j) None l = absurd l
+  at_each None (Some k) l = absurd l
+  at_each None None l = refl
 
   pub every_each : (p q : ℕ → Bool) → ((j k : ℕ) → Like j k → p j ≡ q k) → (js ks : List ℕ) → Each Like js ks → every p js ≡ every q ks
   unfolding every

@@ -1,5 +1,6 @@
 -- Tables that agree block by block in what a request can see: the records to be seen as one have one number, so that whatever is asked, what is planned is
 -- the same.
+use Rattle.std.specs.Prelude.{Option, Some, None}
 use Rattle.octets.specs.Standard.{ℕ, zero, suc, ◌≤◌, Bool, true, false, cond, ◌≡◌, refl, sym, ◌∙◌, ap, inl, inr, List, [], ◌∷◌, ◌++◌, arith}
 use Rattle.octets.specs.Name.{same}
 use Rattle.record.specs.HeaderBlock.{header_of}
@@ -10,8 +11,6 @@ use Rattle.table.specs.SoundTable.{SoundTable}
 use Rattle.table.proofs.Sound.{sound_header_lem, sound_networks_lem, sound_place_lem, sound_limits_lem}
 use Rattle.lookup.specs.Among.{Among}
 use Rattle.lookup.specs.Find.{find_public, private_is}
-use Rattle.lookup.specs.declared.Found.{Found}
-use Rattle.lookup.specs.declared.Found.TheVariants.{At, Nothing}
 use Rattle.lookup.proofs.Among.{public_among}
 use Rattle.lookup.proofs.Halves.{find_alike}
 use Rattle.diameter.specs.Put.{All}
@@ -88,9 +87,9 @@ module _ (count : ℕ) where
   each_ranged (j ∷ js) [] e = absurd e
   each_ranged (j ∷ js) (k ∷ ks) (l, e) = (l.1, each_ranged js ks e)
 
-  found_self : (f : Found) → Among count f → FoundAlike (Together count) f f
-  found_self (At k) among = (refl, (among.from k refl, among.to k refl))
-  found_self Nothing among = tt
+  found_self : (f : Option ℕ) → Among count f → FoundAlike (Together count) f f
+  found_self (Some k) among = (refl, (among.from k refl, among.to k refl))
+  found_self None among = tt
 
   -- plans that are alike are the same
   block_same : (j k : ℕ) → BlockAlike (Together count) j k → j ≡ k

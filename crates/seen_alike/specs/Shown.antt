@@ -1,14 +1,12 @@
 -- What a request sees of a table, by the names of the fields; and when it sees the same of two tables, which may hold their records in other blocks and others
 -- besides.
-use Rattle.std.specs.Prelude.{ℕ, zero, suc, ◌<◌, ◌≤◌, ◌≡◌, Bool, cond, List, [], ◌∷◌, ◌++◌, ◌⊎◌}
+use Rattle.std.specs.Prelude.{ℕ, zero, suc, ◌<◌, ◌≤◌, ◌≡◌, Bool, cond, List, [], ◌∷◌, ◌++◌, ◌⊎◌, Option, Some, None}
 use Rattle.record.specs.Fields.{keep_of, host_of, realm_of, networks_of, state_of, bits_of, roaming_of, server_size, public_of, private_of, server_of, mandatory_of}
 use Rattle.record.specs.Fields.{optional_of, profile_of, set_of}
 use Rattle.record.specs.Networks.{network_of}
 use Rattle.blocks.specs.Blocks.{block_of}
 use Rattle.table.specs.Named.{private_at}
 use Rattle.lookup.specs.Find.{find_public, private_is}
-use Rattle.lookup.specs.declared.Found.{Found}
-use Rattle.lookup.specs.declared.Found.TheVariants.{At, Nothing}
 
 -- two header blocks show the same
 pub record SameHeader (b c : List ℕ) : Type 0 where
@@ -45,11 +43,11 @@ Each Like (x ∷ xs) [] = ⊥
 Each Like (x ∷ xs) (y ∷ ys) = Like x y × Each Like xs ys
 
 -- two look-ups find nothing, or records that are like each other
-abbrev pub FoundAlike : (ℕ → ℕ → Type 0) → Found → Found → Type 0
-FoundAlike Like (At j) (At k) = Like j k
-FoundAlike Like (At j) Nothing = ⊥
-FoundAlike Like Nothing (At k) = ⊥
-FoundAlike Like Nothing Nothing = Unit
+abbrev pub FoundAlike : (ℕ → ℕ → Type 0) → Option ℕ → Option ℕ → Type 0
+FoundAlike Like (Some j) (Some k) = Like j k
+FoundAlike Like (Some j) None = ⊥
+FoundAlike Like None (Some k) = ⊥
+FoundAlike Like None None = Unit
 
 -- two block numbers are 0, which is no record, or those of such records
 abbrev pub BlockAlike : (ℕ → ℕ → Type 0) → ℕ → ℕ → Type 0
@@ -65,4 +63,4 @@ pub record SameSight (file other t u : List ℕ) (count many : ℕ) (Like : ℕ 
   pub second : (j k : ℕ) → Like j k → 1 ≤ k
   pub found : (name : List ℕ) → Public name → FoundAlike Like (find_public t count name) (find_public u many name)
   pub owned : (name : List ℕ) → Private name → Each Like (numbers_up_to (private_is t name) count) (numbers_up_to (private_is u name) many)
-  pub owner : (name : List ℕ) → Public name → (k : ℕ) → find_public t count name ≡ At k → Private (private_at t k)
+  pub owner : (name : List ℕ) → Public name → (k : ℕ) → find_public t count name ≡ Some k → Private (private_at t k)

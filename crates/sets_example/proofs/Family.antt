@@ -1,12 +1,12 @@
 -- A family: lines of one private identity that share a set, computed. The definitions of 02 [6] are tried here, the theorems about sets have their instances,
 -- and three wrong servers fail the promise.
+use Rattle.std.specs.Prelude.{Ok, Err}
 use Rattle.octets.specs.Standard.{ℕ, ◌≡◌, refl, ap, ◌∙◌, true, false, List, [], ◌∷◌, ◌++◌, arith, get_or, take, set}
 use Rattle.octets.specs.Run.{over}
 use Rattle.record.specs.Fields.{edition_of}
 use Rattle.record.specs.Sets.{same_set, agreeing}
 use Rattle.blocks.specs.Blocks.{block_of}
 use Rattle.table.specs.Check.{check_table}
-use Rattle.blocks.specs.declared.Checked.TheVariants.{Sound, Bad}
 use Rattle.vectors.specs.VectorFile.{check_vectors}
 use Rattle.pen.specs.Bytes.{avp_bytes, vendor_bytes, number_bytes, vendor_number}
 use Rattle.requests.specs.Request.{under_cx}
@@ -39,38 +39,38 @@ unfoldable pub family : ℕ → ℕ → List ℕ → List ℕ
 family bits state server = head 3 ++ (line 1 0x61 0x70 1 state bits server ++ (line 2 0x62 0x70 1 state 0 server ++ line 3 0x63 0x70 0 0 0 []))
 
 -- "all records of a set agree in state, pending and server name, the later block being blamed"
-agreed : check_table (pair 0x70 1 1 0 s) 0 ≡ Sound 2
+agreed : check_table (pair 0x70 1 1 0 s) 0 ≡ Ok 2
 unfolding opened head line pair
 agreed = refl
 
 -- barred and unregistered services may differ
-differ : check_table (pair 0x70 1 1 6 s) 0 ≡ Sound 2
+differ : check_table (pair 0x70 1 1 6 s) 0 ≡ Ok 2
 unfolding opened head line pair
 differ = refl
 
-state_apart : check_table (pair 0x70 1 2 0 s) 0 ≡ Bad 2
+state_apart : check_table (pair 0x70 1 2 0 s) 0 ≡ Err 2
 unfolding opened head line pair
 state_apart = refl
 
-pending_apart : check_table (pair 0x70 1 1 1 s) 0 ≡ Bad 2
+pending_apart : check_table (pair 0x70 1 1 1 s) 0 ≡ Err 2
 unfolding opened head line pair
 pending_apart = refl
 
-server_apart : check_table (pair 0x70 1 1 0 z) 0 ≡ Bad 2
+server_apart : check_table (pair 0x70 1 1 0 z) 0 ≡ Err 2
 unfolding opened head line pair
 server_apart = refl
 
 -- another number, and the same number in another subscription, are other sets
-other_number : check_table (pair 0x70 2 2 0 s) 0 ≡ Sound 2
+other_number : check_table (pair 0x70 2 2 0 s) 0 ≡ Ok 2
 unfolding opened head line pair
 other_number = refl
 
-other_private : check_table (pair 0x71 1 2 0 s) 0 ≡ Sound 2
+other_private : check_table (pair 0x71 1 2 0 s) 0 ≡ Ok 2
 unfolding opened head line pair
 other_private = refl
 
 -- "Every effect of a SAR .. reaches the whole set": registering `a` registers `b`, and not `c`
-pub family_sound : check_table (family 0 0 []) 0 ≡ Sound 3
+pub family_sound : check_table (family 0 0 []) 0 ≡ Ok 3
 unfolding opened head line family
 family_sound = refl
 
@@ -94,14 +94,14 @@ challenged = head 3 ++ (line 1 0x61 0x70 1 0 1 s ++ (line 2 0x62 0x70 1 0 1 s ++
 challenge : Lent
 challenge = lent (authentication 1 s) (family 0 0 []) [] (vector 0 0x70 0x20) room (under_cx 3588 0)
 
-card_sound : check_vectors (vector 0 0x70 0x20) ≡ Sound 1
+card_sound : check_vectors (vector 0 0x70 0x20) ≡ Ok 1
 unfolding opened
 card_sound = refl
 
 both_challenged : (serve_table challenge).table ≡ challenged
 unfolding opened head line family challenged challenge
 both_challenged =
-    ap (λ (y : Served). y.table) (come challenge {y = known false (Sound 3) (Sound 1) challenge} roomy family_sound card_sound refl)
+    ap (λ (y : Served). y.table) (come challenge {y = known false (Ok 3) (Ok 1) challenge} roomy family_sound card_sound refl)
 
 -- "one with a non-barred identity in its implicit set may go on": a UAR of type 1 for `a`, which is barred, and `b` is not; then both are
 unfoldable pub asking : List ℕ
@@ -110,7 +110,7 @@ asking = request 300 (common ++ (avp_bytes 1 (0x70 ∷ []) ++ (vendor_bytes 601 
 abbrev pub admitted : Lent
 admitted = lent asking (family 2 1 s) [] [] room (under_cx 3588 0)
 
-pub barred_sound : check_table (family 2 1 s) 0 ≡ Sound 3
+pub barred_sound : check_table (family 2 1 s) 0 ≡ Ok 3
 unfolding opened head line family
 barred_sound = refl
 
@@ -127,7 +127,7 @@ going_on_lem = come admitted roomy barred_sound no_vectors refl
 unfoldable pub shut : List ℕ
 shut = head 3 ++ (line 1 0x61 0x70 1 1 2 s ++ (line 2 0x62 0x70 1 1 2 s ++ line 3 0x63 0x70 0 0 0 []))
 
-pub shut_sound : check_table shut 0 ≡ Sound 3
+pub shut_sound : check_table shut 0 ≡ Ok 3
 unfolding opened head line shut
 shut_sound = refl
 

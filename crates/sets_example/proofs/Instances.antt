@@ -1,11 +1,11 @@
 -- The theorems of 02 [6] (demands/proofs/Sets) have instances: their hypotheses are met by a family, computed, in an area with two bytes behind it.
+use Rattle.std.specs.Prelude.{Ok, Err}
 use Rattle.octets.specs.Standard.{ℕ, zero, suc, ◌<◌, ◌≤◌, ◌≡◌, refl, ap, subst, ◌∙◌, Bool, true, false, ◌&&◌, inl, inr, ◌≢◌, List, [], ◌∷◌, ◌++◌, arith}
 use Rattle.octets.specs.Standard.{length, get_or, ltb, lit≤, lit<, ltb-true}
 use Rattle.octets.proofs.All.{and_left, and_right}
 use Rattle.record.specs.Fields.{bits_of, barred}
 use Rattle.record.specs.HeaderBlock.{header_of}
 use Rattle.blocks.specs.Blocks.{block_of}
-use Rattle.blocks.specs.declared.Checked.TheVariants.{Sound, Bad}
 use Rattle.table.specs.Area.{size_in, table_in, check_area}
 use Rattle.table.specs.Check.{sound_at, check_table}
 use Rattle.table.specs.Named.{private_at}
@@ -125,7 +125,7 @@ disagreeing =
       apart = λ e. let n : ◌≡◌ {A = ℕ} 1 2 = e.state in omega arith;
     }
 
-met_blamed : check_table apart 0 ≡ Bad 2
+met_blamed : check_table apart 0 ≡ Err 2
 met_blamed = sets.later_blamed apart 0 1 2 disagreeing
 
 apart_size : length apart ≡ size_in apart
@@ -135,7 +135,7 @@ apart_size = refl
 apart_front : table_in (apart ++ piece) ≡ apart
 apart_front = read_front apart piece apart_size
 
-met_blamed_check : ReadsCheck 5 (Bad 2) (check_word 5 (check_area (apart ++ piece) 0))
+met_blamed_check : ReadsCheck 5 (Err 2) (check_word 5 (check_area (apart ++ piece) 0))
 met_blamed_check = sets.later_blamed_check (apart ++ piece) [] 1 2 (rw apart_front disagreeing) (record { answer = refl })
 
 none_early : any_holds (early_trials (under_cx 3588 0) asking room) ≡ false
@@ -185,7 +185,7 @@ met_uar = sets.barred_uar (within turned_out) out_result
 abbrev unheard : Lent
 unheard = lent asking (head 0) [] [] room (under_cx 3588 0)
 
-unheard_sound : check_table (head 0) 0 ≡ Sound 0
+unheard_sound : check_table (head 0) 0 ≡ Ok 0
 unfolding opened head
 unheard_sound = refl
 
@@ -196,7 +196,7 @@ met_unknown =
 unfoldable lonely : List ℕ
 lonely = head 1 ++ line 1 0x61 0x70 1 1 2 s
 
-lonely_sound : check_table lonely 0 ≡ Sound 1
+lonely_sound : check_table lonely 0 ≡ Ok 1
 unfolding opened head line lonely
 lonely_sound = refl
 
@@ -233,7 +233,7 @@ strangers = head 2 ++ (line 1 0x61 0x71 1 1 2 s ++ line 2 0x62 0x70 1 1 2 s)
 abbrev stranger : Lent
 stranger = lent asking strangers [] [] room (under_cx 3588 0)
 
-pub strangers_sound : check_table strangers 0 ≡ Sound 2
+pub strangers_sound : check_table strangers 0 ≡ Ok 2
 unfolding opened head line strangers
 strangers_sound = refl
 

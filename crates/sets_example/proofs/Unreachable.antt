@@ -1,8 +1,8 @@
 -- The theorems of 02 [7] (demands/proofs/Unreachable) have instances: their hypotheses are met by a family, computed, in an area with two bytes behind it.
+use Rattle.std.specs.Prelude.{Ok}
 use Rattle.octets.specs.Standard.{ℕ, ◌<◌, ◌≡◌, refl, ap, subst, ◌⊎◌, inl, inr, ◌≢◌, List, [], ◌∷◌, ◌++◌, arith, get_or, take, lit≤, lit<}
 use Rattle.record.specs.Fields.{server_size}
 use Rattle.blocks.specs.Blocks.{block_of}
-use Rattle.blocks.specs.declared.Checked.TheVariants.{Sound}
 use Rattle.table.specs.Check.{check_table}
 use Rattle.table.specs.Named.{private_at}
 use Rattle.vectors.specs.VectorBlock.{vector_of}
@@ -121,7 +121,7 @@ met_sar_only = unreachable.sar_only (within question) 3 (sound_front question 3 
 abbrev unheard : Lent
 unheard = lent (assignment 0 z) (head 0) [] [] room (under_cx 3588 0)
 
-unheard_sound : check_table (head 0) 0 ≡ Sound 0
+unheard_sound : check_table (head 0) 0 ≡ Ok 0
 unfolding opened head
 unheard_sound = refl
 

@@ -15,7 +15,7 @@ use Rattle.envelope.proofs.Lengths.{front_length, header_length, origin_length, 
 use Rattle.user_data.specs.declared.References.{References}
 use Rattle.user_data.proofs.Sizes.{user_data_most}
 use Rattle.sh.specs.Answer.{record_bytes, told_bytes, sh_body, sh_answer, body_room}
-use Rattle.sh.specs.declared.telling.Telling.{Telling}
+use Rattle.sh.specs.Tell.{Telling}
 
 record_most : (r : References) (b : List ℕ) → length (server_of b) ≤ 96 → length (record_bytes r b) ≤ 728
 unfolding record_bytes

@@ -11,7 +11,7 @@ use Rattle.envelope.specs.Front.{front_bytes, origin_bytes}
 use Rattle.envelope.specs.Header.{header_bytes}
 use Rattle.user_data.specs.UserData.{user_data_bytes}
 use Rattle.user_data.specs.declared.References.{References}
-use Rattle.sh.specs.declared.telling.Telling.{Telling}
+use Rattle.sh.specs.Tell.{Telling}
 
 -- 702 of a record's block; of the block that is told of, nothing where none is
 unfoldable pub record_bytes : References → List ℕ → List ℕ

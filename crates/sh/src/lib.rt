@@ -11,7 +11,7 @@ ghost use Rattle.sh.specs.Replies.{Replies};
 
 use reading::Dialect;
 
-// What is said of an answer: its length, and the place of the AVP at fault, 0 where none is.
+// What is said of an answer, as the word of a call has it: its length, and the place of the AVP at fault, 0 where none is.
 #[derive(Clone, Copy)]
 pub struct Reply {
     pub length: u32,
@@ -23,13 +23,10 @@ pub fn answer_sound(out: &mut [u8], req: &[u8], t: &[u8], count: usize, d: Diale
     requires { Passed req.now out.old × SoundTable t.now count }
     ensures { Replies d req.now t.now count out.old out.new result }
 {
-    let terms = d.terms;
-    let g = telling::tell(req, t, count, d);
-    let verdict = g.verdict;
-    let place = verdict.place;
-    let length = answer::answer(out, req, t, count, terms, g);
+    let told = telling::tell(req, t, count, d);
+    let length = answer::answer(out, req, t, count, d.terms, told);
     Reply {
         length: length as u32,
-        place: place as u16,
+        place: telling::verdict_of(told).place as u16,
     }
 }

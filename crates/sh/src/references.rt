@@ -3,7 +3,7 @@ ghost use Rattle.std.specs.Prelude.{◌≡◌};
 ghost use Rattle.diameter.specs.Message.{body_of};
 ghost use Rattle.sh.specs.Referring.{references_of};
 
-use diameter::{Read, message};
+use diameter::message;
 use reading::kinds;
 use user_data::References;
 
@@ -19,16 +19,17 @@ pub fn references_of(s: &[u8]) -> References
     let mut state = false;
     let mut name = false;
     let mut other = false;
+    // By place: it steps over whole AVPs.
     let mut at = message::BODY;
     while at < s.len() {
-        let Read::Avp(a) = diameter::read_avp(s, at) else {
+        let Ok(a) = diameter::read_avp(s, at) else {
             return References { state, name, other };
         };
         let here = kinds::kind_of(s, a) == kinds::DATA_REFERENCE;
         let n = diameter::value_of(s, a);
-        state = state | (here & (n == STATE));
-        name = name | (here & (n == NAME));
-        other = other | (here & ((n != STATE) & (n != NAME)));
+        state |= here & (n == STATE);
+        name |= here & (n == NAME);
+        other |= here & ((n != STATE) & (n != NAME));
         at = a.next;
     }
     References { state, name, other }

@@ -1,4 +1,5 @@
 -- Two tables of which a request sees the same get the same answer.
+use Rattle.std.specs.Prelude.{Option, Some, None}
 use Rattle.octets.specs.Standard.{ℕ, zero, suc, List, Bool, true, false, cond, ◌≡◌, refl, ap, arith, ne_eqb}
 use Rattle.record.specs.Fields.{host_of, realm_of}
 use Rattle.blocks.specs.Blocks.{block_of}
@@ -10,16 +11,13 @@ use Rattle.requests.specs.Judged.{Judged, bad, fine}
 use Rattle.requests.specs.Request.{dialect_of, under_sh, read_sh, identity_of}
 use Rattle.lookup.specs.Among.{Among}
 use Rattle.lookup.specs.Find.{find_public}
-use Rattle.lookup.specs.declared.Found.{Found}
-use Rattle.lookup.specs.declared.Found.TheVariants.{At, Nothing}
 use Rattle.lookup.proofs.Among.{public_among}
 use Rattle.envelope.specs.Front.{origin_bytes}
 use Rattle.user_data.specs.declared.References.{References}
 use Rattle.sh.specs.Answer.{record_bytes, told_bytes, sh_body, sh_answer}
 use Rattle.sh.specs.Referring.{references_of}
 use Rattle.reading.specs.Verdicts.{fault_of}
-use Rattle.sh.specs.Tell.{denied, tell_record, tell_found, tell_read, tell_judged, tell}
-use Rattle.sh.specs.declared.telling.Telling.{Telling}
+use Rattle.sh.specs.Tell.{Telling, denied, tell_record, tell_found, tell_read, tell_judged, tell}
 use Rattle.sh_demands.specs.Shown.{SameShown, SameFound, SameSight}
 
 -- the same verdict, and the same bytes told
@@ -46,14 +44,14 @@ module _ (t u : List ℕ) (r : References) where
       go true = record { verdict = refl; bytes = refl }
       go false = record { verdict = refl; bytes = rw (ne_eqb (suc j) 0 (omega arith), ne_eqb (suc k) 0 (omega arith)) (record_same r _ _ s) }
 
-  told_found : (count many : ℕ) (f g : Found) → Among count f → Among many g → SameFound t u f g → SameTold t u (tell_found r f) (tell_found r g)
+  told_found : (count many : ℕ) (f g : Option ℕ) → Among count f → Among many g → SameFound t u f g → SameTold t u (tell_found r f) (tell_found r g)
   unfolding tell_found told_bytes
-  told_found count many (At zero) g a b s = absurd (omega (arith, a.from 0 refl))
-  told_found count many (At (suc j)) (At zero) a b s = absurd (omega (arith, b.from 0 refl))
-  told_found count many (At (suc j)) (At (suc k)) a b s = told_record j k s
-  told_found count many (At (suc j)) Nothing a b s = absurd s
-  told_found count many Nothing (At k) a b s = absurd s
-  told_found count many Nothing Nothing a b s = record { verdict = refl; bytes = refl }
+  told_found count many (Some zero) g a b s = absurd (omega (arith, a.from 0 refl))
+  told_found count many (Some (suc j)) (Some zero) a b s = absurd (omega (arith, b.from 0 refl))
+  told_found count many (Some (suc j)) (Some (suc k)) a b s = told_record j k s
+  told_found count many (Some (suc j)) None a b s = absurd s
+  told_found count many None (Some k) a b s = absurd s
+  told_found count many None None a b s = record { verdict = refl; bytes = refl }
 
 whole_same : (terms : Terms) (req t u : List ℕ) (g h : Telling) → SameTold t u g h → host_of (block_of t 0) ≡ host_of (block_of u 0)
     → realm_of (block_of t 0) ≡ realm_of (block_of u 0)

@@ -12,8 +12,7 @@ use Rattle.failed.specs.Failing.{failed_of, failed_by}
 use Rattle.refusals.specs.Early.{check_value}
 use Rattle.envelope.specs.End.{end_bytes}
 use Rattle.sh.specs.Answer.{told_bytes, sh_body, sh_answer}
-use Rattle.sh.specs.Tell.{tell_none, tell_judged, tell}
-use Rattle.sh.specs.declared.telling.Telling.{Telling}
+use Rattle.sh.specs.Tell.{Telling, tell_none, tell_judged, tell}
 use Rattle.sh.proofs.Tellings.{read_clear}
 use Rattle.ndushavire.specs.Reads.{call_place}
 use Rattle.ndushavire_sh.specs.Lent.{Lent, terms_in, dialect_in}

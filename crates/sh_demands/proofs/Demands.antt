@@ -1,8 +1,7 @@
 -- 02 [12], "The voicemail box asks too.", as theorems about `sh_serve`, which is what the exported call is promised to return and to leave, for anything lent.
+use Rattle.std.specs.Prelude.{Result, Ok, Err}
 use Rattle.octets.specs.Standard.{ℕ, ◌%◌, ◌≤◌, List, ◌∷◌, true, false, ◌≡◌, refl, ◌≢◌, ◌⊎◌, sym, ap, ◌∙◌, length, drop}
 use Rattle.octets.specs.Run.{over}
-use Rattle.blocks.specs.declared.Checked.{Checked}
-use Rattle.blocks.specs.declared.Checked.TheVariants.{Sound, Bad}
 use Rattle.table.specs.Area.{table_in, check_area}
 use Rattle.diameter.specs.Put.{Piece, Whole, All}
 use Rattle.diameter.specs.Avp.{avp_flags, reserved}
@@ -63,10 +62,10 @@ module _ (x : Lent) where
   pub sh_demand_1_none : (n k : ℕ) → (sh_serve x).call ≡ Refused n k → n ≢ 5 → k ≡ 0
   sh_demand_1_none = besides_none x
 
-  pub sh_demand_1_block : (k : ℕ) → (sh_serve x).call ≡ Refused 5 k → check_area x.table (length x.profile) ≡ Bad k
+  pub sh_demand_1_block : (k : ℕ) → (sh_serve x).call ≡ Refused 5 k → check_area x.table (length x.profile) ≡ Err k
   sh_demand_1_block = besides_block x
 
-  pub sh_demand_1_length : (a : Answer) → (sh_serve x).call ≡ Answered a → (count : ℕ) → check_area x.table (length x.profile) ≡ Sound count
+  pub sh_demand_1_length : (a : Answer) → (sh_serve x).call ≡ Answered a → (count : ℕ) → check_area x.table (length x.profile) ≡ Ok count
       → a.length ≡ length (answer_of x count)
   sh_demand_1_length = answer_long x
 
@@ -88,13 +87,13 @@ module _ (x : Lent) where
   sh_demand_1_room = buffer_length x
 
   -- every answer fits
-  pub sh_demand_1_fits : early (terms_in x) x.request x.buffer ≡ 0 → (count : ℕ) → check_area x.table (length x.profile) ≡ Sound count
+  pub sh_demand_1_fits : early (terms_in x) x.request x.buffer ≡ 0 → (count : ℕ) → check_area x.table (length x.profile) ≡ Ok count
       → length (answer_of x count) ≤ 36864
   sh_demand_1_fits = fits x
 
 -- DEMAND 2. A call that is not refused over a sound table is the decision: the call says its answer's length and the place of the AVP at fault, and the buffer
 -- is the answer's bytes over the buffer as it came.
-pub sh_demand_2 : (x : Lent) (count : ℕ) → check_area x.table (length x.profile) ≡ Sound count → turned_away x ≡ false
+pub sh_demand_2 : (x : Lent) (count : ℕ) → check_area x.table (length x.profile) ≡ Ok count → turned_away x ≡ false
     → ((sh_serve x).call ≡ Answered (record { length = length (answer_of x count); place = (told_of x count).verdict.place }))
     × ((sh_serve x).buffer ≡ over (answer_of x count) x.buffer)
 unfolding answered
@@ -102,10 +101,10 @@ sh_demand_2 x count s e = let a = answered_is x count s e in (rw a, rw a)
 
 -- WHAT IT SAYS. A request that was read, over a sound table: the answer is X5001 exactly when no record has the identity asked about; X5100 exactly when one
 -- has and some Data-Reference is neither 11 nor 12; else B2001, and its 702, read back, says the stored server name and the state of the record with that identity.
-module _ (x : Lent) (count : ℕ) (sound : check_area x.table (length x.profile) ≡ Sound count) (seen : Seen)
+module _ (x : Lent) (count : ℕ) (sound : check_area x.table (length x.profile) ≡ Ok count) (seen : Seen)
     (read : read_sh (dialect_in x) x.request ≡ fine seen) where
   counted : (told_of x count).verdict.result ≡ result_of x
-  counted = ap (λ (c : Checked). (told_of x (check_value c)).verdict.result) (sym sound)
+  counted = ap (λ (c : Result ℕ ℕ). (told_of x (check_value c)).verdict.result) (sym sound)
 
   pub sh_unknown : turned_away x ≡ false → ((k : ℕ) → Holds x count (identity_of seen) k → ⊥) → sh_serve x ≡ saying x (denied 5001)
   sh_unknown = says_unknown x count sound seen read

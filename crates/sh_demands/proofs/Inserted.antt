@@ -20,8 +20,7 @@ use Rattle.envelope.specs.End.{proxies, end_bytes}
 use Rattle.envelope.specs.Header.{header_bytes}
 use Rattle.sh.specs.Answer.{told_bytes, sh_body, sh_answer}
 use Rattle.sh.specs.Referring.{refers, refers_other, references_of}
-use Rattle.sh.specs.Tell.{tell_none, tell_read, tell_judged, tell}
-use Rattle.sh.specs.declared.telling.Telling.{Telling}
+use Rattle.sh.specs.Tell.{Telling, tell_none, tell_read, tell_judged, tell}
 use Rattle.sh.proofs.Tellings.{read_clear}
 use Rattle.ndushavire_sh.specs.Lent.{Lent, terms_in, dialect_in}
 use Rattle.ndushavire_sh.specs.Serve.{trials_of, refused, told_of, answered, serve_checked, sh_serve}

@@ -1,8 +1,7 @@
 -- Demand 1 for the Sh server: an answer, or exactly one of six refusals; what a refused call leaves, and what an answered one writes.
+use Rattle.std.specs.Prelude.{Result, Ok}
 use Rattle.octets.specs.Standard.{ℕ, ◌≤◌, Bool, true, false, true≢false, ◌≡◌, refl, sym, ap, ◌∙◌, arith, length, drop, drop_at}
 use Rattle.octets.specs.Run.{over}
-use Rattle.blocks.specs.declared.Checked.{Checked}
-use Rattle.blocks.specs.declared.Checked.TheVariants.{Sound}
 use Rattle.table.specs.Area.{table_in, check_area}
 use Rattle.refusals.specs.Early.{check_value, early}
 use Rattle.refusals.specs.Trial.{Trial}
@@ -18,7 +17,7 @@ use Rattle.demands.proofs.Trials.{exactly}
 use Rattle.sh_demands.specs.Call.{turned_away}
 
 module _ (x : Lent) where
-  abbrev checked : Checked
+  abbrev checked : Result ℕ ℕ
   checked = check_area x.table (length x.profile)
 
   abbrev answer : Served
@@ -55,8 +54,8 @@ module _ (x : Lent) where
   pub answer_is : turned_away x ≡ false → sh_serve x ≡ answer
   answer_is = any_call (λ b s. b ≡ false → s ≡ answer) (λ r e. absurd (true≢false e)) (λ e. refl)
 
-  pub answered_is : (count : ℕ) → checked ≡ Sound count → turned_away x ≡ false → sh_serve x ≡ answered x count
-  answered_is count s e = answer_is e ∙ ap (λ (c : Checked). answered x (check_value c)) s
+  pub answered_is : (count : ℕ) → checked ≡ Ok count → turned_away x ≡ false → sh_serve x ≡ answered x count
+  answered_is count s e = answer_is e ∙ ap (λ (c : Result ℕ ℕ). answered x (check_value c)) s
 
   pub buffer_past : drop (call_value (sh_serve x).call) (sh_serve x).buffer ≡ drop (call_value (sh_serve x).call) x.buffer
   unfolding refused answered over
@@ -66,7 +65,7 @@ module _ (x : Lent) where
       (drop_at bytes (drop (length bytes) x.buffer) (length bytes) refl)
 
   -- every answer fits
-  pub fits : early (terms_in x) x.request x.buffer ≡ 0 → (count : ℕ) → checked ≡ Sound count → length (answer_of x count) ≤ 36864
+  pub fits : early (terms_in x) x.request x.buffer ≡ 0 → (count : ℕ) → checked ≡ Ok count → length (answer_of x count) ≤ 36864
   unfolding check_area
   fits e count s =
       answer_fits (table_in x.table) count (record { file = length x.profile; checked = s }) (terms_in x) x.request x.buffer _

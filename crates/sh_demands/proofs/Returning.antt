@@ -1,8 +1,7 @@
 -- What a call of the Sh server returns: its number, what is returned besides, and the word that says both.
+use Rattle.std.specs.Prelude.{Result, Ok, Err}
 use Rattle.octets.specs.Standard.{ℕ, ◌≤◌, ◌<◌, Bool, true, false, true≢false, ◌≡◌, refl, sym, ap, ◌∙◌, ◌⊎◌, inl, inr, ◌≢◌, arith, length}
 use Rattle.octets.proofs.Writes.{over_length}
-use Rattle.blocks.specs.declared.Checked.{Checked}
-use Rattle.blocks.specs.declared.Checked.TheVariants.{Sound, Bad}
 use Rattle.diameter.specs.Put.{All}
 use Rattle.table.specs.Area.{table_in, check_area}
 use Rattle.refusals.specs.Early.{is_bad, check_value, unsound, unknown_peer, small_buffer, wrong_size, wrong_length, no_request, early}
@@ -11,7 +10,7 @@ use Rattle.refusals.specs.Trial.{Trial, tried, any_holds}
 use Rattle.refusals.proofs.Passing.{passes, neither}
 use Rattle.refusals.proofs.Trials.{tried_by}
 use Rattle.calling.specs.Call.{Answer, Call, Answered, Refused}
-use Rattle.sh.proofs.Tellings.{tell_bounds}
+use Rattle.sh.proofs.Tellings.{tell_near}
 use Rattle.ndushavire.specs.Reads.{call_number, call_value, Reads}
 use Rattle.ndushavire.specs.Word.{call_word}
 use Rattle.ndushavire_sh.specs.Lent.{Lent, terms_in, dialect_in}
@@ -21,13 +20,13 @@ use Rattle.sh_demands.specs.Call.{turned_away}
 use Rattle.sh_demands.proofs.Refusing.{fits}
 
 -- an unsound file's first bad block
-bad_block : (c : Checked) → is_bad c ≡ true → c ≡ Bad (check_value c)
-bad_block (Sound count) e = absurd (true≢false (sym e))
-bad_block (Bad block) e = refl
+bad_block : (c : Result ℕ ℕ) → is_bad c ≡ true → c ≡ Err (check_value c)
+bad_block (Ok count) e = absurd (true≢false (sym e))
+bad_block (Err block) e = refl
 
-good_count : (c : Checked) → is_bad c ≡ false → c ≡ Sound (check_value c)
-good_count (Sound count) e = refl
-good_count (Bad block) e = absurd (true≢false e)
+good_count : (c : Result ℕ ℕ) → is_bad c ≡ false → c ≡ Ok (check_value c)
+good_count (Ok count) e = refl
+good_count (Err block) e = absurd (true≢false e)
 
 -- a refusal is no answer
 is_answer : Call → ℕ
@@ -35,7 +34,7 @@ is_answer (Answered a) = 1
 is_answer (Refused number besides) = 0
 
 module _ (x : Lent) where
-  abbrev checked : Checked
+  abbrev checked : Result ℕ ℕ
   checked = check_area x.table (length x.profile)
 
   abbrev answer : Served
@@ -70,12 +69,12 @@ module _ (x : Lent) where
   -- Refusal 5 returns the first bad block besides, every other refusal 0, an answer its length.
   record Besides (c : Call) : Type 0 where
     none : (n k : ℕ) → c ≡ Refused n k → n ≢ 5 → k ≡ 0
-    block : (k : ℕ) → c ≡ Refused 5 k → checked ≡ Bad k
+    block : (k : ℕ) → c ≡ Refused 5 k → checked ≡ Err k
     long : (a : Answer) → c ≡ Answered a → a.length ≡ length (answer_of x (check_value checked))
 
   record Right (r : Trial) : Type 0 where
     none : r.number ≢ 5 → r.besides ≡ 0
-    block : r.holds ≡ true → r.number ≡ 5 → checked ≡ Bad r.besides
+    block : r.holds ≡ true → r.number ≡ 5 → checked ≡ Err r.besides
 
   other : (h : Bool) (n : ℕ) → n ≢ 5 → Right (record { holds = h; number = n; besides = 0 })
   other h n l = record { none = λ i. refl; block = λ i e. absurd (l e) }
@@ -90,7 +89,7 @@ module _ (x : Lent) where
       (λ r q h.
       record {
         none = λ n k e l. sym (ap call_value e) ∙ q.none (λ i. l (sym (ap call_number e) ∙ i));
-        block = λ k e. q.block h (ap call_number e) ∙ ap Bad (ap call_value e);
+        block = λ k e. q.block h (ap call_number e) ∙ ap Err (ap call_value e);
         long = λ a e. absurd (omega (arith, ap is_answer e));
       })
       (record {
@@ -102,16 +101,16 @@ module _ (x : Lent) where
   pub besides_none : (n k : ℕ) → (sh_serve x).call ≡ Refused n k → n ≢ 5 → k ≡ 0
   besides_none = besides.none
 
-  pub besides_block : (k : ℕ) → (sh_serve x).call ≡ Refused 5 k → checked ≡ Bad k
+  pub besides_block : (k : ℕ) → (sh_serve x).call ≡ Refused 5 k → checked ≡ Err k
   besides_block = besides.block
 
-  pub answer_long : (a : Answer) → (sh_serve x).call ≡ Answered a → (count : ℕ) → checked ≡ Sound count → a.length ≡ length (answer_of x count)
-  answer_long a e count s = besides.long a e ∙ ap (λ (c : Checked). length (answer_of x (check_value c))) s
+  pub answer_long : (a : Answer) → (sh_serve x).call ≡ Answered a → (count : ℕ) → checked ≡ Ok count → a.length ≡ length (answer_of x count)
+  answer_long a e count s = besides.long a e ∙ ap (λ (c : Result ℕ ℕ). length (answer_of x (check_value c))) s
 
   -- What no refusal takes passes the early ones, over a sound table.
   record Taken : Type 0 where
     none : early (terms_in x) x.request x.buffer ≡ 0
-    table : checked ≡ Sound (check_value checked)
+    table : checked ≡ Ok (check_value checked)
 
   taken : turned_away x ≡ false → Taken
   unfolding early tried any_holds
@@ -133,7 +132,7 @@ module _ (x : Lent) where
   near : turned_away x ≡ false → (told_of x (check_value checked)).verdict.place < 65536
   near e =
       let p = passed e in
-      omega (arith, (tell_bounds (dialect_in x) x.request (table_in x.table) (check_value checked) p.least p.most).1)
+      omega (arith, tell_near (dialect_in x) x.request (table_in x.table) (check_value checked) p.least p.most)
 
   few : check_value checked ≤ 4096
   unfolding check_area

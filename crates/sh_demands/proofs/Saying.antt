@@ -1,13 +1,11 @@
 -- Which answer a User-Data-Request gets that was read, and what its 702 says.
+use Rattle.std.specs.Prelude.{Ok, Option, Some, None}
 use Rattle.octets.specs.Standard.{ℕ, List, Bool, true, false, ◌≡◌, ◌≢◌, refl, sym, ap, ◌∙◌, arith, eqb, ne_eqb, length}
 use Rattle.record.specs.Fields.{state_of, bits_of, server_of, pending}
 use Rattle.blocks.specs.Blocks.{block_of}
-use Rattle.blocks.specs.declared.Checked.TheVariants.{Sound}
 use Rattle.table.specs.Area.{table_in, check_area}
 use Rattle.table.specs.SoundTable.{SoundTable}
 use Rattle.lookup.specs.Find.{find_public}
-use Rattle.lookup.specs.declared.Found.{Found}
-use Rattle.lookup.specs.declared.Found.TheVariants.{At, Nothing}
 use Rattle.lookup.proofs.Halves.{one_block, found_only, only_found, found_no, no_found}
 use Rattle.diameter.specs.Message.{body_of}
 use Rattle.reading.specs.Rules.{Seen}
@@ -21,15 +19,14 @@ use Rattle.user_data.specs.declared.References.{References}
 use Rattle.user_data.proofs.Told.{shows_name, shows_clean, tells_name, tells_state}
 use Rattle.sh.specs.Answer.{record_bytes, told_bytes, sh_body, sh_answer}
 use Rattle.sh.specs.Referring.{references_of}
-use Rattle.sh.specs.Tell.{denied, tell_record, tell_found, tell_read, tell_judged, tell}
-use Rattle.sh.specs.declared.telling.Telling.{Telling}
+use Rattle.sh.specs.Tell.{Telling, denied, tell_record, tell_found, tell_read, tell_judged, tell}
 use Rattle.ndushavire_sh.specs.Lent.{Lent, dialect_in}
 use Rattle.ndushavire_sh.specs.Serve.{told_of, answered, sh_serve}
 use Rattle.sh_demands.specs.Call.{turned_away}
 use Rattle.sh_demands.specs.Saying.{Holds, refers_else, Known, saying, Says}
 use Rattle.sh_demands.proofs.Refusing.{answered_is}
 
-module _ (x : Lent) (count : ℕ) (sound : check_area x.table (length x.profile) ≡ Sound count) (seen : Seen)
+module _ (x : Lent) (count : ℕ) (sound : check_area x.table (length x.profile) ≡ Ok count) (seen : Seen)
     (read : read_sh (dialect_in x) x.request ≡ fine seen) where
   abbrev t : List ℕ
   t = table_in x.table
@@ -55,7 +52,7 @@ module _ (x : Lent) (count : ℕ) (sound : check_area x.table (length x.profile)
   unfolding tell tell_judged tell_read
   told_by = rw read
 
-  found_by : (k : ℕ) → Holds x count name k → find_public t count name ≡ At k
+  found_by : (k : ℕ) → Holds x count name k → find_public t count name ≡ Some k
   found_by k h =
       only_found t count name k
       (record {
@@ -90,29 +87,29 @@ module _ (x : Lent) (count : ℕ) (sound : check_area x.table (length x.profile)
       go true f = differ (denied 5001) (denied 5100) (λ z. omega (arith, z)) e (tells_other k h f)
       go false f = differ (denied 5001) (granted k) (λ z. omega (arith, z)) e (tells_known k h f)
 
-  holds_at_lem : (k : ℕ) → find_public t count name ≡ At k → Holds x count name k
+  holds_at_lem : (k : ℕ) → find_public t count name ≡ Some k → Holds x count name k
   holds_at_lem k e = let o = found_only t count name table_sound k e in record { from = o.from; to = o.to; named = o.named }
 
-  tells_nothing : find_public t count name ≡ Nothing → told_of x count ≡ denied 5001
+  tells_nothing : find_public t count name ≡ None → told_of x count ≡ denied 5001
   tells_nothing e = tells_unknown (λ k h. found_no t count name e k h.from h.to h.named)
 
   pub other_only : result ≡ Experimental 5100 → Known x count name true
   unfolding number_of
   other_only r = go (find_public t count name) (refers_else x) refl refl
     where
-      go : (f : Found) (o : Bool) → find_public t count name ≡ f → refers_else x ≡ o → Known x count name true
-      go Nothing o e g = absurd (differ (denied 5100) (denied 5001) (λ z. omega (arith, z)) r (tells_nothing e))
-      go (At k) true e g = record { block = k; holds = holds_at_lem k e; other = g }
-      go (At k) false e g = absurd (differ (denied 5100) (granted k) (λ z. omega (arith, z)) r (tells_known k (holds_at_lem k e) g))
+      go : (f : Option ℕ) (o : Bool) → find_public t count name ≡ f → refers_else x ≡ o → Known x count name true
+      go None o e g = absurd (differ (denied 5100) (denied 5001) (λ z. omega (arith, z)) r (tells_nothing e))
+      go (Some k) true e g = record { block = k; holds = holds_at_lem k e; other = g }
+      go (Some k) false e g = absurd (differ (denied 5100) (granted k) (λ z. omega (arith, z)) r (tells_known k (holds_at_lem k e) g))
 
   pub known_only : result ≡ Base 2001 → Known x count name false
   unfolding number_of
   known_only r = go (find_public t count name) (refers_else x) refl refl
     where
-      go : (f : Found) (o : Bool) → find_public t count name ≡ f → refers_else x ≡ o → Known x count name false
-      go Nothing o e g = absurd (differ (granted 0) (denied 5001) (λ z. omega (arith, z)) r (tells_nothing e))
-      go (At k) true e g = absurd (differ (granted 0) (denied 5100) (λ z. omega (arith, z)) r (tells_other k (holds_at_lem k e) g))
-      go (At k) false e g = record { block = k; holds = holds_at_lem k e; other = g }
+      go : (f : Option ℕ) (o : Bool) → find_public t count name ≡ f → refers_else x ≡ o → Known x count name false
+      go None o e g = absurd (differ (granted 0) (denied 5001) (λ z. omega (arith, z)) r (tells_nothing e))
+      go (Some k) true e g = absurd (differ (granted 0) (denied 5100) (λ z. omega (arith, z)) r (tells_other k (holds_at_lem k e) g))
+      go (Some k) false e g = record { block = k; holds = holds_at_lem k e; other = g }
 
   -- The call.
   module _ (taken : turned_away x ≡ false) where

@@ -21,7 +21,7 @@ use Rattle.user_data.specs.Elements.{inside, name_told, state_told}
 use Rattle.user_data.specs.UserData.{name_start, name_end, user_state}
 use Rattle.sh.specs.Answer.{sh_answer}
 use Rattle.sh.specs.Referring.{refers, refers_other}
-use Rattle.sh.specs.declared.telling.Telling.{Telling}
+use Rattle.sh.specs.Tell.{Telling}
 use Rattle.ndushavire_sh.specs.Lent.{Lent, terms_in}
 use Rattle.ndushavire_sh.specs.Serve.{Served}
 

@@ -1,10 +1,8 @@
 -- What a User-Data-Request sees of a table: the names of its answerer, and of the record that it asks about the state, pending and the server name.
-use Rattle.std.specs.Prelude.{ℕ, ◌≡◌, List}
+use Rattle.std.specs.Prelude.{ℕ, ◌≡◌, List, Option, Some, None}
 use Rattle.record.specs.Fields.{host_of, realm_of, state_of, bits_of, server_of, pending}
 use Rattle.blocks.specs.Blocks.{block_of}
 use Rattle.lookup.specs.Find.{find_public}
-use Rattle.lookup.specs.declared.Found.{Found}
-use Rattle.lookup.specs.declared.Found.TheVariants.{At, Nothing}
 use Rattle.reading.specs.Rules.{Seen}
 use Rattle.requests.specs.Judged.{fine}
 use Rattle.requests.specs.Request.{dialect_of, under_sh, read_sh, identity_of}
@@ -16,11 +14,11 @@ pub record SameShown (b c : List ℕ) : Type 0 where
   pub server : server_of b ≡ server_of c
 
 -- two look-ups find nothing, or such records
-abbrev pub SameFound : List ℕ → List ℕ → Found → Found → Type 0
-SameFound t u (At j) (At k) = SameShown (block_of t j) (block_of u k)
-SameFound t u (At j) Nothing = ⊥
-SameFound t u Nothing (At k) = ⊥
-SameFound t u Nothing Nothing = Unit
+abbrev pub SameFound : List ℕ → List ℕ → Option ℕ → Option ℕ → Type 0
+SameFound t u (Some j) (Some k) = SameShown (block_of t j) (block_of u k)
+SameFound t u (Some j) None = ⊥
+SameFound t u None (Some k) = ⊥
+SameFound t u None None = Unit
 
 -- two tables, of so many records, show the same to a request by a peer: the same answerer, and the same of the identity that it asks about
 pub record SameSight (req : List ℕ) (peer : ℕ) (t u : List ℕ) (count many : ℕ) : Type 0 where

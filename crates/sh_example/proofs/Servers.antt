@@ -1,8 +1,8 @@
 -- Wrong servers of the Sh interface, and calls that are computed: at an input whose outcome is known, what a wrong server gives does not meet the promise,
 -- whatever else it gives.
+use Rattle.std.specs.Prelude.{Err}
 use Rattle.octets.specs.Standard.{ℕ, ◌≡◌, refl, sym, ap, ◌∙◌, ◌≢◌, List, [], ◌∷◌, ◌++◌, false, get_or, take, drop, set, replicate, arith}
 use Rattle.octets.specs.Run.{over}
-use Rattle.blocks.specs.declared.Checked.TheVariants.{Bad}
 use Rattle.table.specs.Area.{table_in, check_area}
 use Rattle.pen.specs.Bytes.{vendor_bytes, vendor_head, number_bytes}
 use Rattle.pen.specs.Groups.{vendor_application, experimental, failed}
@@ -206,7 +206,7 @@ nothing peer = lent (1 ∷ []) [] [] [] peer
 bare : List ℕ → Lent
 bare req = lent req [] [] room 3588
 
-bare_bad : check_area [] 0 ≡ Bad 0
+bare_bad : check_area [] 0 ≡ Err 0
 unfolding opened
 bare_bad = refl
 
@@ -214,7 +214,7 @@ bare_table : table_in [] ≡ []
 unfolding opened
 bare_table = refl
 
-bare_served : (req : List ℕ) {y : Served} → known false (Bad 0) [] (bare req) ≡ y → sh_serve (bare req) ≡ y
+bare_served : (req : List ℕ) {y : Served} → known false (Err 0) [] (bare req) ≡ y → sh_serve (bare req) ≡ y
 unfolding bare
 bare_served req e = come (bare req) roomy bare_bad bare_table e
 
@@ -239,7 +239,7 @@ peer_fails f h p = h (word_given f peer_served p)
 unfoldable pub broken : Lent
 broken = lent (ask 0x61 state) (set area 1024 9) [] room 3588
 
-pub broken_bad : check_area (set area 1024 9) 0 ≡ Bad 2
+pub broken_bad : check_area (set area 1024 9) 0 ≡ Err 2
 unfolding opened area
 broken_bad = refl
 

@@ -6,8 +6,7 @@ use Rattle.reading.specs.Verdicts.{fault_at, fault_of, lack_of}
 use Rattle.requests.specs.Request.{cx, sh, dialect_of, under_sh}
 use Rattle.user_data.specs.UserData.{opening, name_start, name_end, state_start, state_end, closing}
 use Rattle.sh.specs.Answer.{sh_answer}
-use Rattle.sh.specs.Tell.{tell, tell_none, denied}
-use Rattle.sh.specs.declared.telling.Telling.{Telling}
+use Rattle.sh.specs.Tell.{Telling, tell, tell_none, denied}
 use Rattle.sh_example.proofs.Sample.{table, marks, request, common, udr, identity, outside, state, name, other, ask, reply, opened}
 
 -- WHAT IS TOLD: of a request by a peer that follows RFC 3588

@@ -1,7 +1,7 @@
 -- The promise, demands 1 and 2 of the Sh server: their hypotheses can be met, by calls that are computed, answered and refused.
+use Rattle.std.specs.Prelude.{Err}
 use Rattle.octets.specs.Standard.{ℕ, ◌≤◌, ◌≡◌, refl, sym, ap, ◌∙◌, List, [], ◌∷◌, ◌++◌, true, false, ◌⊎◌, arith, length, drop, eqb}
 use Rattle.octets.specs.Run.{over}
-use Rattle.blocks.specs.declared.Checked.TheVariants.{Bad}
 use Rattle.table.specs.Area.{check_area}
 use Rattle.pen.specs.Groups.{experimental}
 use Rattle.refusals.specs.Early.{early_trials, early}
@@ -77,7 +77,7 @@ met_2 = sh_demand_2 unknown 4 area_sound taken
 broken_call : (sh_serve broken).call ≡ Refused 5 2
 broken_call = ap (λ (y : Served). y.call) broken_served
 
-met_1_block : check_area broken.table (length broken.profile) ≡ Bad 2
+met_1_block : check_area broken.table (length broken.profile) ≡ Err 2
 met_1_block = sh_demand_1_block broken 2 broken_call
 
 met_1_none : ◌≡◌ {A = ℕ} 0 0

@@ -1,12 +1,11 @@
 -- The neighbour's line, of the Sh server: two tables that differ in all they may differ in, and behind one of them a whole stale record and a last piece.
+use Rattle.std.specs.Prelude.{Ok, Some}
 use Rattle.octets.specs.Standard.{ℕ, ◌≤◌, false, ◌≡◌, refl, sym, ap, ◌∙◌, List, [], ◌∷◌, ◌++◌, length, take, length-replicate, lit≤}
 use Rattle.record.specs.Fields.{public_of}
 use Rattle.blocks.specs.Blocks.{block_of}
-use Rattle.blocks.specs.declared.Checked.TheVariants.{Sound}
 use Rattle.table.specs.Area.{table_in, check_area}
 use Rattle.table.proofs.Areas.{read_front, sound_size_in}
 use Rattle.lookup.specs.Find.{find_public}
-use Rattle.lookup.specs.declared.Found.TheVariants.{At}
 use Rattle.reading.specs.Rules.{Seen}
 use Rattle.requests.specs.Judged.{Judged, fine}
 use Rattle.requests.specs.Request.{dialect_of, under_sh, read_sh, identity_of}
@@ -58,7 +57,7 @@ there req buffer = lent req (second ++ stale) others buffer 3588
 stale_in : table_in (second ++ stale) ≡ second
 stale_in = read_front second stale (sound_size_in second (length others) 6 second_exact)
 
-there_sound : check_area (second ++ stale) (length others) ≡ Sound 6
+there_sound : check_area (second ++ stale) (length others) ≡ Ok 6
 unfolding check_area
 there_sound = rw stale_in second_exact
 
@@ -93,8 +92,8 @@ alike_w buffer =
 abbrev told : ℕ → Answer
 told n = record { length = n; place = 0 }
 
-here_so : (req : List ℕ) (n : ℕ) → (known false (Sound 4) first (here req)).call ≡ Answered (told n) → (sh_serve (here req)).call ≡ Answered (told n)
-here_so req n e = ap (λ (y : Served). y.call) (come (here req) {y = known false (Sound 4) first (here req)} roomy first_sound_lem first_in refl) ∙ e
+here_so : (req : List ℕ) (n : ℕ) → (known false (Ok 4) first (here req)).call ≡ Answered (told n) → (sh_serve (here req)).call ≡ Answered (told n)
+here_so req n e = ap (λ (y : Served). y.call) (come (here req) {y = known false (Ok 4) first (here req)} roomy first_sound_lem first_in refl) ∙ e
 
 here_c : (sh_serve (here asked)).call ≡ Answered (told 268)
 unfolding opened all asked
@@ -124,11 +123,11 @@ met_neighbour_same = sh_neighbour_same (here asked) (there asked room) 4 6 first
 unfoldable lone : List ℕ
 lone = header 1 ++ line 1 0x63 0 5 server
 
-found_area : find_public (table_in area) 4 (0x63 ∷ []) ≡ At 3
+found_area : find_public (table_in area) 4 (0x63 ∷ []) ≡ Some 3
 unfolding opened
 found_area = rw area_table
 
-found_lone : find_public (table_in lone) 1 (0x63 ∷ []) ≡ At 1
+found_lone : find_public (table_in lone) 1 (0x63 ∷ []) ≡ Some 1
 unfolding opened lone
 found_lone = refl
 

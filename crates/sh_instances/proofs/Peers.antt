@@ -1,9 +1,9 @@
 -- The two editions of the base standard, and areas longer than their table, of the Sh server: a request whose 260 has one Vendor-Id, one whose 260 has two.
+use Rattle.std.specs.Prelude.{Ok}
 use Rattle.octets.specs.Standard.{ℕ, ◌≡◌, refl, ◌≢◌, List, [], ◌∷◌, ◌++◌, some, set, false, lit≤, length}
 use Rattle.table.specs.Area.{size_in, table_in}
 use Rattle.table.specs.Check.{check_table}
 use Rattle.table.proofs.Areas.{sound_size_in}
-use Rattle.blocks.specs.declared.Checked.TheVariants.{Sound}
 use Rattle.diameter.specs.AvpAt.{avp_at}
 use Rattle.diameter.specs.Message.{body_of}
 use Rattle.pen.specs.Bytes.{avp_bytes, number_bytes}
@@ -76,7 +76,7 @@ behind = line 5 0x61 2 0 [] ++ (1 ∷ 2 ∷ 3 ∷ [])
 abbrev alone : Lent
 alone = lent (ask 0x61 state) table [] room 3588
 
-table_sound : check_table table 0 ≡ Sound 4
+table_sound : check_table table 0 ≡ Ok 4
 unfolding opened
 table_sound = refl
 

@@ -1,6 +1,6 @@
 -- The place, of the Sh server: the hypotheses of its theorems can be met, by requests that are computed.
+use Rattle.std.specs.Prelude.{Ok}
 use Rattle.octets.specs.Standard.{ℕ, ◌≤◌, ◌<◌, ◌≡◌, refl, sym, ap, true, false, List, [], ◌∷◌, ◌++◌, map, arith, length, take, set}
-use Rattle.blocks.specs.declared.Checked.TheVariants.{Sound}
 use Rattle.pen.specs.Bytes.{avp_bytes, vendor_bytes, vendor_head, number_bytes}
 use Rattle.pen.specs.Groups.{failed}
 use Rattle.reading.specs.declared.Outcome.TheVariants.{Base}
@@ -146,12 +146,12 @@ place_of req = call_place (sh_serve (asking req)).call
 
 -- the same by what the checks answer
 abbrev place_known : List ℕ → ℕ
-place_known req = call_place (known false (Sound 4) table (asking req)).call
+place_known req = call_place (known false (Ok 4) table (asking req)).call
 
 all_known : (l : List (List ℕ)) → map place_of l ≡ map place_known l
 all_known [] = refl
 all_known (req ∷ l) =
-    let e : place_of req ≡ place_known req = ap (λ (y : Served). call_place y.call) (served req {y = known false (Sound 4) table (asking req)} refl) in
+    let e : place_of req ≡ place_known req = ap (λ (y : Served). call_place y.call) (served req {y = known false (Ok 4) table (asking req)} refl) in
     rw (e, all_known l)
 
 places : map place_of letters ≡ 156 ∷ 156 ∷ 20 ∷ 0 ∷ 76 ∷ 112 ∷ 156 ∷ 140 ∷ 140 ∷ 112 ∷ 112 ∷ 0 ∷ []

@@ -1,7 +1,7 @@
 -- What the Sh server says: an identity that no record has, another data reference, and a record's name and state, told and read back; each both ways.
+use Rattle.std.specs.Prelude.{Result}
 use Rattle.octets.specs.Standard.{ℕ, zero, suc, ◌≤◌, ◌≡◌, refl, sym, ap, ◌∙◌, ◌≢◌, List, [], ◌∷◌, ◌++◌, none, some, true, false, arith, get_or, lit≤}
 use Rattle.blocks.specs.Blocks.{block_of}
-use Rattle.blocks.specs.declared.Checked.{Checked}
 use Rattle.table.specs.Area.{table_in}
 use Rattle.table.specs.Named.{public_at}
 use Rattle.diameter.specs.Avp.{data_of}
@@ -90,7 +90,7 @@ taken_unnamed = held (asking unnamed) roomy area_sound refl
 -- the result over the area
 pub result_so : (req : List ℕ) {r : Outcome} → (tell (dialect_of (under_sh 3588) req) req table 4).verdict.result ≡ r → result_of (asking req) ≡ r
 result_so req e =
-    ap (λ (c : Checked). (told_of (asking req) (check_value c)).verdict.result) area_sound
+    ap (λ (c : Result ℕ ℕ). (told_of (asking req) (check_value c)).verdict.result) area_sound
     ∙ ap (λ (t : List ℕ). (tell (dialect_of (under_sh 3588) req) req t 4).verdict.result) area_table
     ∙ e
 

@@ -1,15 +1,13 @@
 -- 02 [9], "The neighbour's line", for the Sh server, as theorems about `sh_serve`: another subscriber's doings show in no answer to a User-Data-Request.
+use Rattle.std.specs.Prelude.{Ok, Option, Some, None}
 use Rattle.octets.specs.Standard.{ℕ, ◌≤◌, List, false, ◌≡◌, refl, sym, ap, ◌∙◌, length, take, take_at, drop, le-ltb}
 use Rattle.octets.specs.Run.{over}
 use Rattle.record.specs.Fields.{public_of, pending}
 use Rattle.blocks.specs.Blocks.{block_of}
-use Rattle.blocks.specs.declared.Checked.TheVariants.{Sound}
 use Rattle.table.specs.Area.{table_in, check_area}
 use Rattle.table.specs.Named.{public_at}
 use Rattle.table.specs.SoundTable.{SoundTable}
 use Rattle.lookup.specs.Find.{public_is, find_public}
-use Rattle.lookup.specs.declared.Found.{Found}
-use Rattle.lookup.specs.declared.Found.TheVariants.{At, Nothing}
 use Rattle.requests.specs.Request.{identity_of}
 use Rattle.seen_alike.specs.Shown.{FoundAlike}
 use Rattle.seen_alike.proofs.Rows.{first_each}
@@ -28,14 +26,14 @@ use Rattle.sh_demands.proofs.Refusing.{answered_taken}
 use Rattle.sh_neighbour.specs.Asked.{SameAsked}
 
 -- The front of the buffer that an answered call leaves is the answer.
-bytes_left : (z : Lent) (n : ℕ) → check_area z.table (length z.profile) ≡ Sound n → turned_away z ≡ false
+bytes_left : (z : Lent) (n : ℕ) → check_area z.table (length z.profile) ≡ Ok n → turned_away z ≡ false
     → take (length (answer_of z n)) (sh_serve z).buffer ≡ answer_of z n
 unfolding over
 bytes_left z n s e =
     ap (take (length (answer_of z n))) (sh_demand_2 z n s e).1 ∙ take_at (answer_of z n) (drop (length (answer_of z n)) z.buffer) (length (answer_of z n)) refl
 
-module _ (x y : Lent) (count many : ℕ) (first : check_area x.table (length x.profile) ≡ Sound count)
-    (second : check_area y.table (length y.profile) ≡ Sound many) (asked : SameAsked x y count many) where
+module _ (x y : Lent) (count many : ℕ) (first : check_area x.table (length x.profile) ≡ Ok count)
+    (second : check_area y.table (length y.profile) ≡ Ok many) (asked : SameAsked x y count many) where
   abbrev t : List ℕ
   t = table_in x.table
 
@@ -55,13 +53,13 @@ module _ (x y : Lent) (count many : ℕ) (first : check_area x.table (length x.p
   Like = LineAt t u x.profile y.profile count many
 
   -- records that are the same line show the same of it
-  found_shown : (f g : Found) → FoundAlike Like f g → SameFound t u f g
-  found_shown (At j) (At k) l =
+  found_shown : (f g : Option ℕ) → FoundAlike Like f g → SameFound t u f g
+  found_shown (Some j) (Some k) l =
       let s = line_shows x.profile y.profile (block_of t j) (block_of u k) l.2 (line_roomy t count here j l.0) (line_roomy u many there k l.1) in
       record { state = s.state; pends = ap pending s.bits; server = s.server }
-  found_shown (At j) Nothing l = absurd l
-  found_shown Nothing (At k) l = absurd l
-  found_shown Nothing Nothing l = tt
+  found_shown (Some j) None l = absurd l
+  found_shown None (Some k) l = absurd l
+  found_shown None None l = tt
 
   same_sight : SameSight x.request x.peer t u count many
   unfolding find_public public_is public_at

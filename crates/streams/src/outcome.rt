@@ -1,64 +1,67 @@
 // An outcome: the word, that nothing was altered that may not be, and what changed in each slice that is written to, from the first
 // changed byte to the last.
-ghost use Rattle.std.specs.Prelude.{◌≤◌, length};
+ghost use Rattle.std.specs.Prelude.{◌≤◌, ◌<◌, length};
 
-use octets::number;
+use std::io;
 
-// What stands before the changes: the word, four bytes of zeros, since nothing here could alter what is lent to be read, and how many
-// changes there are.
-pub fn put(rt: &impl Print, word: u64, changes: u8) -> bool {
-    let mut bytes = [0u8; 13];
-    number::put_be32(&mut bytes, 0, (word / 4294967296) as u32);
-    number::put_be32(&mut bytes, 4, (word % 4294967296) as u32);
-    bytes[12] = changes;
-    rt.write_all(&bytes).is_ok()
+// A slice of a case that an entry writes to: as it was, and in a copy as it is.
+#[derive(Drop)]
+pub struct Lent<'a> {
+    before: &'a [u8],
+    space: [u8; 40000],
+    ghost within: { length before.now ≤ 40000 },
 }
 
-// The first of n bytes that changed; 0 if none did.
-fn first_change(before: &[u8], after: &[u8], n: usize) -> usize
-    requires { (n ≤ length before.now) × (n ≤ length after.now) }
-    ensures { result ≤ n }
+// The first n bytes.
+fn front(space: &mut [u8; 40000], n: usize) -> &mut [u8]
+    requires { n ≤ 40000 }
 {
-    let mut i = 0;
-    while i < n {
-        if before[i] != after[i] {
-            return i;
-        }
-        i += 1;
-    }
-    0
+    &mut space[..n]
 }
 
-// Past the last of n bytes that changed, not before from.
-fn past_change(before: &[u8], after: &[u8], from: usize, n: usize) -> usize
-    requires { (n ≤ length before.now) × (n ≤ length after.now) × (from ≤ n) }
-    ensures { (from ≤ result) × (result ≤ n) }
+impl<'a> Lent<'a> {
+    pub fn new(before: &'a [u8]) -> Lent<'a>
+        requires { length before.now ≤ 40000 }
+    {
+        let mut space = [0u8; 40000];
+        space[..before.len()].copy_from_slice(before);
+        Lent { before, space }
+    }
+
+    // What is written to.
+    pub fn bytes(&mut self) -> &mut [u8] {
+        let n = self.before.len();
+        front(&mut self.space, n)
+    }
+
+    // Where it begins and how long it is, and what it is now; of one where nothing changed it begins at 0.
+    fn put_change(&self, rt: &impl Print) -> io::Result<()> {
+        let after = &self.space[..self.before.len()];
+        let first = self
+            .before
+            .iter()
+            .zip(after)
+            .position(|(b, a)| b != a)
+            .unwrap_or(0);
+        let changed = self.before[first..]
+            .iter()
+            .zip(&after[first..])
+            .rposition(|(b, a)| b != a)
+            .map_or(0, |last| last + 1);
+        rt.write_all(&(first as u32).to_be_bytes())?;
+        rt.write_all(&(changed as u32).to_be_bytes())?;
+        rt.write_all(&after[first..first + changed])
+    }
+}
+
+// Writes the word, four bytes of zeros, since nothing here could alter what is lent to be read, how many changes there are, and the changes.
+pub fn put(rt: &impl Print, word: u64, lent: &[&Lent]) -> io::Result<()>
+    requires { length lent.now < 256 }
 {
-    let mut end = n;
-    while from < end {
-        if before[end - 1] != after[end - 1] {
-            return end;
-        }
-        end -= 1;
+    rt.write_all(&word.to_be_bytes())?;
+    rt.write_all(&[0, 0, 0, 0, lent.len() as u8])?;
+    for slice in lent {
+        slice.put_change(rt)?;
     }
-    end
-}
-
-fn put_changed(rt: &impl Print, before: &[u8], after: &[u8]) -> bool
-    requires { (length before.now ≤ length after.now) × (length before.now ≤ 40000) }
-{
-    let first = first_change(before, after, before.len());
-    let past = past_change(before, after, first, before.len());
-    let mut bytes = [0u8; 8];
-    number::put_be32(&mut bytes, 0, first as u32);
-    number::put_be32(&mut bytes, 4, (past - first) as u32);
-    rt.write_all(&bytes).is_ok() & rt.write_all(&after[first..past]).is_ok()
-}
-
-// What changed in a slice, which lies at the front of after and has room there.
-pub fn put_change(rt: &impl Print, before: &[u8], after: &[u8; 40000]) -> bool {
-    if after.len() < before.len() {
-        return false;
-    }
-    put_changed(rt, before, after)
+    Ok(())
 }

@@ -1,5 +1,7 @@
 -- How an area reads: by its table alone, and as itself where it is as long as that.
-use Rattle.octets.specs.Standard.{ℕ, suc, ◌+◌, ◌-◌, ◌*◌, ◌<◌, ◌≤◌, ◌&&◌, and-false, ◌≡◌, ◌≢◌, sym, ◌∙◌, ap, List, ◌++◌, arith, leb, length, take, drop}
+use Rattle.std.proofs.lemmas.List.{take_min}
+use Rattle.std.specs.Prelude.{Result, Ok, Err}
+use Rattle.octets.specs.Standard.{ℕ, suc, ◌+◌, ◌-◌, ◌*◌, ◌<◌, ◌≤◌, ◌&&◌, and-false, ◌≡◌, ◌≢◌, sym, ◌∙◌, ap, List, ◌++◌, arith, leb, length, take, drop, min}
 use Rattle.octets.specs.Standard.{take-append-drop, take_all, take_at, take-append-le, take-take, length-take-le, ne_eqb}
 use Rattle.octets.specs.Number.{be32_at}
 use Rattle.octets.proofs.All.{all_alike}
@@ -8,8 +10,6 @@ use Rattle.record.specs.HeaderBlock.{header_of, sound_header}
 use Rattle.record.specs.declared.header.Header.{Header}
 use Rattle.blocks.specs.Blocks.{block_of, table_of}
 use Rattle.blocks.specs.Changed.{changed_in}
-use Rattle.blocks.specs.declared.Checked.{Checked}
-use Rattle.blocks.specs.declared.Checked.TheVariants.{Sound, Bad}
 use Rattle.blocks.proofs.Blocks.{table_front, take_block}
 use Rattle.table.specs.Area.{size_in, table_in, check_area}
 use Rattle.table.specs.Check.{rises_at, stands_at, agrees_with, agrees_at, sound_at, check_table}
@@ -81,7 +81,7 @@ pub read_front : (t rest : List ℕ) → length t ≡ size_in t → table_in (t 
 read_front t rest h =
     read_alike t (t ++ rest) (take_at t rest (size_in t) h ∙ sym (take_all (size_in t) t (omega arith))) ∙ in_all t (omega arith)
 
-pub sound_size_in : (t : List ℕ) (file count : ℕ) → check_table t file ≡ Sound count → length t ≡ size_in t
+pub sound_size_in : (t : List ℕ) (file count : ℕ) → check_table t file ≡ Ok count → length t ≡ size_in t
 unfolding size_in header_of
 sound_size_in t file count e = let s : TableTests t file count = table_says t file count e in omega (arith, s.size, s.counted)
 
@@ -92,12 +92,12 @@ module _ (area : List ℕ) (file : ℕ) where
   check_exact h = ap (λ (t : List ℕ). check_table t file) (in_all area (omega arith))
 
   -- "elsewhere the length stays exact": a table of another length has a bad block 0
-  pub table_exact : length area ≢ size_in area → check_table area file ≡ Bad 0
+  pub table_exact : length area ≢ size_in area → check_table area file ≡ Err 0
   unfolding check_table size_in header_of
   table_exact n =
       rw (ne_eqb (length area) (512 * (count_of (block_of area 0) + 1)) n, and-false (leb 512 (length area) && sound_header (block_of area 0)))
 
-  pub check_short : length area < size_in area → check_area area file ≡ Bad 0
+  pub check_short : length area < size_in area → check_area area file ≡ Err 0
   unfolding check_area
   check_short h = ap (λ (t : List ℕ). check_table t file) (in_all area (omega arith)) ∙ table_exact (λ e. omega (arith, e))
 
@@ -112,16 +112,16 @@ module _ (area : List ℕ) where
     unfolding size_in
     size_is = rw (is, at)
 
-    pub length_long : take (512 * (n + 1)) area ≡ table_in area
+    length_long : take (512 * (n + 1)) area ≡ table_in area
     unfolding table_in
     length_long = ap (λ (m : ℕ). take m area) size_is
 
-    pub length_short : length area ≤ 512 * (n + 1) → take (length area) area ≡ table_in area
-    length_short h = take_all (length area) area (omega arith) ∙ sym (in_all area (omega (arith, size_is)))
+    pub length_min : {m : ℕ} → m ≡ min (512 * (n + 1)) (length area) → take m area ≡ table_in area
+    length_min e = rw e (take_min (512 * (n + 1)) area ∙ length_long)
 
 pub front_lent : (area : List ℕ) (n : ℕ) → take n area ≡ table_in area → take (n - 0) (drop 0 area) ≡ table_in area
 front_lent area n e = let q : n - 0 ≡ n = omega arith in rw q e
 
-pub area_checked : (area : List ℕ) (file : ℕ) {t : List ℕ} {r : Checked} → t ≡ table_in area → r ≡ check_table t file → r ≡ check_area area file
+pub area_checked : (area : List ℕ) (file : ℕ) {t : List ℕ} {r : Result ℕ ℕ} → t ≡ table_in area → r ≡ check_table t file → r ≡ check_area area file
 unfolding check_area
 area_checked area file e f = rw (← e) f

@@ -1,4 +1,5 @@
 -- Numbers counted up to the first that is not good: the turns of such a loop, and that two passes find what one finds.
+use Rattle.std.specs.Prelude.{Result, Ok, Err}
 use Rattle.octets.specs.Standard.{ℕ, zero, suc, ◌+◌, ◌-◌, ◌<◌, ◌≤◌, Bool, true, false, ◌&&◌, cond, ◌≡◌, refl, sym, ◌∙◌, List, arith, add-one, bit_or}
 use Rattle.octets.specs.Standard.{leb, eqb, le-leb, lt-leb, leb-true, leb-false, eqb-true}
 use Rattle.octets.specs.All.{all_below}
@@ -10,8 +11,6 @@ use Rattle.record.proofs.OneSet.{OneSet, set_says}
 use Rattle.blocks.specs.Blocks.{block_of, first_bad}
 use Rattle.table.specs.Check.{stands_at, agrees_at, sound_at, check_records}
 use Rattle.table.specs.Leading.{leading, setless, Setless, outcome_of}
-use Rattle.blocks.specs.declared.Checked.{Checked}
-use Rattle.blocks.specs.declared.Checked.TheVariants.{Sound, Bad}
 use Rattle.table.proofs.Agreement.{agrees_holds}
 
 pub leading_all : (good : ℕ → Bool) (n : ℕ) → leading good n 1 ≡ 0 + leading good (n - 0) (0 + 1)
@@ -66,42 +65,42 @@ leading_full good (suc n) k h =
 -- The first that is not good in one of two ways: those good in the one way are counted, and of them those good in the other.
 module _ (good p q : ℕ → Bool) (each : (j : ℕ) → good j ≡ (p j && q j)) (count : ℕ) where
   pub two_passes : (n k : ℕ)
-      → first_bad good count n k ≡ cond (leb (leading q (leading p n k) k + 1) n) (Bad (leading q (leading p n k) k + k)) (Sound count)
+      → first_bad good count n k ≡ cond (leb (leading q (leading p n k) k + 1) n) (Err (leading q (leading p n k) k + k)) (Ok count)
   unfolding first_bad leading
   two_passes zero k = refl
   two_passes (suc n) k = go (p k) (q k) refl refl (two_passes n (suc k))
     where
-      whole : ℕ → Checked
-      whole m = cond (leb (m + 1) (suc n)) (Bad (m + k)) (Sound count)
+      whole : ℕ → Result ℕ ℕ
+      whole m = cond (leb (m + 1) (suc n)) (Err (m + k)) (Ok count)
 
       later : ℕ
       later = leading q (leading p n (suc k)) (suc k)
 
-      first : whole 0 ≡ Bad k
+      first : whole 0 ≡ Err k
       first = let z : 0 + k ≡ k = omega arith in rw (le-leb (0 + 1) (suc n) (omega arith), z)
 
-      next : (m : ℕ) → cond (leb (m + 1) n) (Bad (m + suc k)) (Sound count) ≡ whole (suc m)
+      next : (m : ℕ) → cond (leb (m + 1) n) (Err (m + suc k)) (Ok count) ≡ whole (suc m)
       next m = pick (leb (m + 1) n) refl
         where
           same : m + suc k ≡ suc m + k
           same = omega arith
 
-          pick : (x : Bool) → leb (m + 1) n ≡ x → cond (leb (m + 1) n) (Bad (m + suc k)) (Sound count) ≡ whole (suc m)
+          pick : (x : Bool) → leb (m + 1) n ≡ x → cond (leb (m + 1) n) (Err (m + suc k)) (Ok count) ≡ whole (suc m)
           pick true e = rw (e, same, le-leb (suc m + 1) (suc n) (omega (arith, leb-true (m + 1) n e)))
           pick false e = rw (e, lt-leb (suc m + 1) (suc n) (omega (arith, leb-false (m + 1) n e)))
 
       go : (x y : Bool) → p k ≡ x → q k ≡ y
-          → first_bad good count n (suc k) ≡ cond (leb (later + 1) n) (Bad (later + suc k)) (Sound count)
-          → cond (good k) (first_bad good count n (suc k)) (Bad k) ≡ whole (leading q (cond (p k) (suc (leading p n (suc k))) 0) k)
+          → first_bad good count n (suc k) ≡ cond (leb (later + 1) n) (Err (later + suc k)) (Ok count)
+          → cond (good k) (first_bad good count n (suc k)) (Err k) ≡ whole (leading q (cond (p k) (suc (leading p n (suc k))) 0) k)
       go false y e f r = rw (each k, e) (sym first)
       go true false e f r = rw (each k, e, f) (sym first)
       go true true e f r = rw (each k, e, f) (r ∙ next later)
 
 -- The answer by the number of sound records.
-pub outcome_bad : (count m : ℕ) → m + 1 ≤ count → Bad (m + 1) ≡ outcome_of count m
+pub outcome_bad : (count m : ℕ) → m + 1 ≤ count → Err (m + 1) ≡ outcome_of count m
 outcome_bad count m h = rw (le-leb _ _ h)
 
-pub outcome_sound : (count m : ℕ) → count < m + 1 → Sound count ≡ outcome_of count m
+pub outcome_sound : (count m : ℕ) → count < m + 1 → Ok count ≡ outcome_of count m
 outcome_sound count m h = rw (lt-leb _ _ h)
 
 -- A record without a set agrees with all.
@@ -120,7 +119,7 @@ setless_all t m e =
     setless_agrees t j (rw q at z))
 
 -- The answer for the records, in two passes.
-module _ (t : List ℕ) (h : Header) (file : ℕ) {m : ℕ} {r : Checked} (stand : m ≡ leading (stands_at t h file) h.count 1) where
+module _ (t : List ℕ) (h : Header) (file : ℕ) {m : ℕ} {r : Result ℕ ℕ} (stand : m ≡ leading (stands_at t h file) h.count 1) where
   pub records_two : {a : ℕ} → a ≡ leading (agrees_at t) m 1 → r ≡ outcome_of h.count a → r ≡ check_records t h file
   unfolding check_records sound_at
   records_two e f =

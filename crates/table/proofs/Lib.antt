@@ -3,6 +3,7 @@ pub mod Areas
 pub mod Hashes
 pub mod Heads
 pub mod Leading
+pub mod Lent
 pub mod Padded
 pub mod Remembered
 pub mod Rising

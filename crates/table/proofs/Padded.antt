@@ -2,8 +2,8 @@
 use Rattle.octets.specs.Standard.{ℕ, ◌+◌, ◌-◌, ◌<◌, ◌≤◌, Bool, true, false, cond, ◌≡◌, refl, sym, ◌∙◌, List, arith, ltb, length, get_or, take, drop}
 use Rattle.octets.specs.Standard.{length-take, length-drop, get_or-eq_default, get_or-drop, get_or-take, take-take, ltb-true, ltb-false}
 use Rattle.octets.specs.Name.{order_of, by_length}
-use Rattle.octets.specs.declared.name.Order.{Order}
-use Rattle.octets.specs.declared.name.Order.TheVariants.{Less, Equal, Greater}
+use Rattle.std.specs.declared.cmp.Ordering.{Ordering}
+use Rattle.std.specs.declared.cmp.Ordering.TheVariants.{Less, Equal, Greater}
 use Rattle.octets.proofs.All.{and_left}
 use Rattle.octets.proofs.Padded.{by_field, padded_order}
 use Rattle.octets.proofs.Runs.{zero_at}
@@ -48,7 +48,7 @@ module _ (a b : List ℕ) (la : length a ≡ 512) (lb : length b ≡ 512) (pa : 
       (padded_order (public_field a) (public_field b) (public_size a) (public_size b) (omega (arith, field_length a la, field_length b lb))
       (omega (arith, field_length a la, pa.size)) (omega (arith, field_length b lb, pb.size)) (past_name a la pa) (past_name b lb pb))
 
-  module _ (s t : List ℕ) {o : Order} (es : s ≡ public_field a) (et : t ≡ public_field b) (eo : o ≡ order_of s t) where
+  module _ (s t : List ℕ) {o : Ordering} (es : s ≡ public_field a) (et : t ≡ public_field b) (eo : o ≡ order_of s t) where
     fields_say : is_less (order_of (public_of a) (public_of b)) ≡ is_less (by_field o (by_length (public_size a) (public_size b)))
     fields_say = rw (eo, es, et, fields_order)
 
@@ -76,7 +76,7 @@ module _ (t : List ℕ) (k : ℕ) (h : Header) (file : ℕ) {b : List ℕ} {x : 
   unfolding stands_at
   stands_here f g = rw (← is, ← sound, f) g
 
-  pub stands_not : x ≡ false → false ≡ stands_at t h file k
+  pub stands_not : x ≡ false → x ≡ stands_at t h file k
   unfolding stands_at
   stands_not f = rw (← is, ← sound, f)
 

@@ -15,11 +15,11 @@ use Rattle.table.proofs.Leading.{setless_agrees}
 
 -- Whether a slot ends the search, by what is read of it.
 module _ (t : List ℕ) (hash k word : ℕ) where
-  pub stop_empty : word ≡ 0 → true ≡ stops_at t hash k word
+  pub stop_empty : word ≡ 0 → eqb word 0 ≡ stops_at t hash k word
   unfolding stops_at
   stop_empty e = rw (eq-eqb word 0 e)
 
-  pub stop_other : {x : ℕ} → (word ≡ 0 → ⊥) → x ≡ tag_of hash → (word / 8192 ≡ x → ⊥) → false ≡ stops_at t hash k word
+  pub stop_other : {x : ℕ} → (word ≡ 0 → ⊥) → x ≡ tag_of hash → (word / 8192 ≡ x → ⊥) → eqb (word / 8192) x ≡ stops_at t hash k word
   unfolding stops_at
   stop_other n e f = rw (ne_eqb word 0 n, ← e, ne_eqb _ _ f)
 

@@ -7,7 +7,7 @@ use Rattle.table.specs.Named.{public_at}
 use Rattle.table.specs.Check.{is_less, rises_at}
 
 -- The first record follows none; a later one its neighbour.
-pub rises_first : (t : List ℕ) (k : ℕ) → k ≤ 1 → true ≡ rises_at t k
+pub rises_first : (t : List ℕ) (k : ℕ) → k ≤ 1 → leb k 1 ≡ rises_at t k
 unfolding rises_at
 rises_first t k h = rw (le-leb _ _ h)
 

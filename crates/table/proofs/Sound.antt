@@ -1,9 +1,10 @@
 -- What a sound table says, and that a table that says so is sound.
+use Rattle.std.specs.Prelude.{Ok, Err}
 use Rattle.octets.specs.Standard.{ℕ, suc, ◌+◌, ◌-◌, ◌*◌, ◌<◌, ◌≤◌, Bool, true, false, ◌&&◌, ◌||◌, not, cond, true≢false, ◌≡◌, refl, sym, ◌∙◌, ap}
 use Rattle.octets.specs.Standard.{List, arith, length, get_or, leb, ltb, eqb, eqb-true, leb-true, ltb-true, lt-leb, le-leb, eq-eqb, ne_eqb, lt-ltb}
 use Rattle.octets.specs.Name.{order_of}
-use Rattle.octets.specs.declared.name.Order.{Order}
-use Rattle.octets.specs.declared.name.Order.TheVariants.{Less, Equal, Greater}
+use Rattle.std.specs.declared.cmp.Ordering.{Ordering}
+use Rattle.std.specs.declared.cmp.Ordering.TheVariants.{Less, Equal, Greater}
 use Rattle.octets.specs.All.{all_below}
 use Rattle.octets.proofs.All.{and_left, and_right, all_at}
 use Rattle.record.specs.Fields.{networks_of, state_of, bits_of, public_size, server_size, pending}
@@ -17,7 +18,6 @@ use Rattle.blocks.specs.Blocks.{block_of}
 use Rattle.table.specs.Named.{public_at}
 use Rattle.table.specs.Check.{is_less, rises_at, stands_at, agrees_at, sound_at, check_records, check_table}
 use Rattle.table.specs.SoundTable.{SoundTable}
-use Rattle.blocks.specs.declared.Checked.TheVariants.{Sound, Bad}
 use Rattle.table.proofs.Agreement.{agrees_says}
 use Rattle.blocks.proofs.First.{bad_sound, good_each, good_count, all_good}
 
@@ -28,7 +28,7 @@ pub record TableTests (t : List ℕ) (file count : ℕ) : Type 0 where
   pub header : sound_header (block_of t 0) ≡ true
   pub each : (k : ℕ) → 1 ≤ k → k ≤ count → sound_at t (header_of (block_of t 0)) file k ≡ true
 
-pub table_says : (t : List ℕ) (file count : ℕ) → check_table t file ≡ Sound count → TableTests t file count
+pub table_says : (t : List ℕ) (file count : ℕ) → check_table t file ≡ Ok count → TableTests t file count
 unfolding check_table check_records
 table_says t file count e = go (leb 512 (length t) && sound_header (block_of t 0) && eqb (length t) (512 * ((header_of (block_of t 0)).count + 1))) refl e
   where
@@ -36,8 +36,8 @@ table_says t file count e = go (leb 512 (length t) && sound_header (block_of t 0
     good = sound_at t (header_of (block_of t 0)) file
 
     go : (x : Bool) → (leb 512 (length t) && sound_header (block_of t 0) && eqb (length t) (512 * ((header_of (block_of t 0)).count + 1))) ≡ x
-        → cond x (check_records t (header_of (block_of t 0)) file) (Bad 0) ≡ Sound count → TableTests t file count
-    go false f g = bad_sound (Bad 0) 0 count refl g
+        → cond x (check_records t (header_of (block_of t 0)) file) (Err 0) ≡ Ok count → TableTests t file count
+    go false f g = bad_sound (Err 0) 0 count refl g
     go true f g =
         let n : (header_of (block_of t 0)).count ≡ count = good_count good (header_of (block_of t 0)).count count (header_of (block_of t 0)).count 1 g in
         let l : length t ≡ 512 * ((header_of (block_of t 0)).count + 1) = eqb-true _ _ (and_right (leb 512 (length t) && sound_header (block_of t 0)) _ f) in
@@ -48,9 +48,9 @@ table_says t file count e = go (leb 512 (length t) && sound_header (block_of t 0
           each = λ k a b. good_each good (header_of (block_of t 0)).count count (header_of (block_of t 0)).count 1 g k a (omega arith);
         }
 
-pub table_holds : (t : List ℕ) (file count : ℕ) → TableTests t file count → check_table t file ≡ Sound count
+pub table_holds : (t : List ℕ) (file count : ℕ) → TableTests t file count → check_table t file ≡ Ok count
 unfolding check_table check_records
-table_holds t file count s = go ∙ ap Sound s.counted
+table_holds t file count s = go ∙ ap Ok s.counted
   where
     h : Header
     h = header_of (block_of t 0)
@@ -58,7 +58,7 @@ table_holds t file count s = go ∙ ap Sound s.counted
     long : length t ≡ 512 * (h.count + 1)
     long = rw s.counted s.size
 
-    go : check_table t file ≡ Sound h.count
+    go : check_table t file ≡ Ok h.count
     go =
         rw (s.header, le-leb 512 (length t) (omega (arith, s.size)), eq-eqb (length t) (512 * (h.count + 1)) long)
         (all_good (sound_at t h file) h.count h.count 1 (λ j a b. s.each j a (omega (arith, s.counted))))
@@ -94,7 +94,7 @@ drop_false : (x : Bool) {y : Bool} → (x && false || y) ≡ true → y ≡ true
 drop_false true e = e
 drop_false false e = e
 
-is_less_lem : (o : Order) → is_less o ≡ true → o ≡ Less
+is_less_lem : (o : Ordering) → is_less o ≡ true → o ≡ Less
 is_less_lem Less e = refl
 is_less_lem Equal e = absurd (true≢false (sym e))
 is_less_lem Greater e = absurd (true≢false (sym e))

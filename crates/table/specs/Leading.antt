@@ -1,10 +1,8 @@
 -- How many numbers from one on pass a test: a check in two passes, each over what the one before it passed.
-use Rattle.std.specs.Prelude.{◌≡◌, ℕ, zero, suc, ◌+◌, Bool, true, cond, List, ◌==◌, nat_le}
+use Rattle.std.specs.Prelude.{◌≡◌, ℕ, zero, suc, ◌+◌, Bool, true, cond, List, ◌==◌, nat_le, Result, Ok, Err}
 use Rattle.octets.specs.All.{all_below}
 use Rattle.record.specs.Fields.{set_of}
 use Rattle.blocks.specs.Blocks.{block_of}
-use Rattle.blocks.specs.declared.Checked.{Checked}
-use Rattle.blocks.specs.declared.Checked.TheVariants.{Sound, Bad}
 
 -- of the n numbers from k on, those before the first that is not good
 unfoldable pub leading : (ℕ → Bool) → ℕ → ℕ → ℕ
@@ -20,5 +18,5 @@ pub record Setless (t : List ℕ) (m : ℕ) (none : Bool) : Type 0 where
   pub each : none ≡ true → all_below (setless t) m ≡ true
 
 -- the answer where the first m of all records are sound, and the next one, if there is one, is not
-abbrev pub outcome_of : ℕ → ℕ → Checked
-outcome_of count m = cond (nat_le (m + 1) count) (Bad (m + 1)) (Sound count)
+abbrev pub outcome_of : ℕ → ℕ → Result ℕ ℕ
+outcome_of count m = cond (nat_le (m + 1) count) (Err (m + 1)) (Ok count)

@@ -14,17 +14,14 @@ pub fn table_length(area: &[u8]) -> usize
         return area.len();
     }
     let size = BLOCK * (number::be32(block(area, 0), Header::COUNT_AT) as usize + 1);
-    if size < area.len() {
-        return size;
-    }
-    area.len()
+    size.min(area.len())
 }
 
 // The table at the front of an area.
 pub fn table_in(area: &[u8]) -> &[u8]
     ensures { result.now ≡ table_in area.now }
 {
-    &area[0..table_length(area)]
+    &area[..table_length(area)]
 }
 
 // The check of an area: no byte past its table is looked at.

@@ -7,14 +7,6 @@ use record::{fields, sets};
 
 const HALF: usize = 4294967296;
 
-// Two halves, multiplied.
-fn product(a: usize, b: usize) -> usize
-    requires { (a < 4294967296) × (b < 4294967296) }
-    ensures { result ≡ a * b }
-{
-    a * b
-}
-
 // Eight bytes of a name.
 fn term(s: &[u8], at: usize, i: usize) -> usize
     requires { (at + 8 ≤ length s.now) × (i ≤ 255) }
@@ -22,17 +14,18 @@ fn term(s: &[u8], at: usize, i: usize) -> usize
 {
     let first = number::be32(s, at) as usize;
     let second = number::be32(s, at + 4) as usize;
-    product(first, (second + i) % HALF)
+    first * ((second + i) % HALF)
 }
 
 // All whole eights of a name. They are added, so that none waits for the one before.
+// By index: what an eight counts depends on its place, and the name's last eight, which `hash_name` adds, may begin within another.
 fn terms(s: &[u8], h: usize) -> usize
     requires { length s.now ≤ 255 }
     ensures { result ≡ sum_terms s.now h (length s.now / 8) }
 {
     let mut sum = h;
     for i in 0..s.len() / 8 {
-        sum = std::num::wrapping_add_usize(sum, term(s, 8 * i, i));
+        sum = sum.wrapping_add(term(s, 8 * i, i));
     }
     sum
 }
@@ -48,8 +41,8 @@ fn mix_bytes(s: &[u8], h: usize) -> usize
     ensures { result ≡ mix_bytes s.now h (length s.now) }
 {
     let mut sum = h;
-    for i in 0..s.len() {
-        sum = mix(sum) + octets::byte(s, i);
+    for b in s {
+        sum = mix(sum) + *b as usize;
     }
     sum
 }
@@ -61,12 +54,11 @@ fn hash_name(s: &[u8], h: usize) -> usize
     if s.len() < 8 {
         return mix_bytes(s, h);
     }
-    std::num::wrapping_add_usize(terms(s, h), term(s, s.len() - 8, s.len()))
+    terms(s, h).wrapping_add(term(s, s.len() - 8, s.len()))
 }
 
 // Two records of one set have the same.
-pub fn hash(b: &[u8]) -> usize
-    requires { length b.now ≡ 512 }
+pub fn hash(b: &[u8; 512]) -> usize
     ensures { result ≡ hash_of b.now }
 {
     mix(hash_name(fields::private(b), sets::set(b) as usize)) / 65536

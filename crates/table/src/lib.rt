@@ -14,22 +14,22 @@ ghost use Rattle.table.specs.Leading.{leading, setless, Setless, outcome_of};
 ghost use Rattle.table.specs.Padded.{Padded, Before};
 
 use blocks::{BLOCK, Checked, block};
-use octets::name::Order;
 use octets::{name, run};
 use record::header::Header;
 use record::subscriber::Record;
 use record::{fields, header, sets, subscriber};
+use std::cmp::Ordering;
 
 // Whether the public identity of one block is less than that of another. Both have zeros past it, so that the whole fields are compared, which
 // have one length; where they are the same, the shorter name comes first.
-fn less(a: &[u8], b: &[u8]) -> bool
-    requires { (length a.now ≡ 512) × (length b.now ≡ 512) × Padded a.now × Padded b.now }
+fn less(a: &[u8; BLOCK], b: &[u8; BLOCK]) -> bool
+    requires { Padded a.now × Padded b.now }
     ensures { result ≡ is_less (order_of (public_of a.now) (public_of b.now)) }
 {
     match name::field_order(fields::public_field(a), fields::public_field(b)) {
-        Order::Less => true,
-        Order::Equal => a[Record::PUBLIC_LENGTH_AT] < b[Record::PUBLIC_LENGTH_AT],
-        Order::Greater => false,
+        Ordering::Less => true,
+        Ordering::Equal => a[Record::PUBLIC_LENGTH_AT] < b[Record::PUBLIC_LENGTH_AT],
+        Ordering::Greater => false,
     }
 }
 
@@ -38,10 +38,7 @@ fn rises(t: &[u8], k: usize) -> bool
     requires { (1 ≤ k) × (512 * k + 512 ≤ length t.now) × Before t.now k × Padded (block_of t.now k) }
     ensures { result ≡ rises_at t.now k }
 {
-    if k <= 1 {
-        return true;
-    }
-    less(block(t, k - 1), block(t, k))
+    k <= 1 || less(block(t, k - 1), block(t, k))
 }
 
 // Whether block k is a sound record in its place. Only a sound one is compared with the record before.
@@ -49,11 +46,7 @@ fn stands(t: &[u8], h: Header, file: usize, mask: &[u8], k: usize) -> bool
     requires { (1 ≤ k) × (k ≤ 4096) × (h.networks ≤ 8) × (512 * k + 512 ≤ length t.now) × Before t.now k × Mask mask.now }
     ensures { result ≡ stands_at t.now h file k }
 {
-    if subscriber::sound(block(t, k), k as u32, h, file, mask) {
-        rises(t, k)
-    } else {
-        false
-    }
+    subscriber::sound(block(t, k), k as u32, h, file, mask) && rises(t, k)
 }
 
 // The number of the set of record i + 1.
@@ -77,13 +70,10 @@ fn standing(t: &[u8], h: Header, file: usize, mask: &[u8]) -> Stood
         × Setless t.now result.records result.setless }
 {
     let count = h.count as usize;
-    let mut m = 0;
     let mut sets: u32 = 0;
-    while m < count {
-        sets = sets | set_after(t, m);
-        if stands(t, h, file, mask, m + 1) {
-            m += 1;
-        } else {
+    for m in 0..count {
+        sets |= set_after(t, m);
+        if !stands(t, h, file, mask, m + 1) {
             return Stood {
                 records: m,
                 setless: sets == 0,
@@ -91,7 +81,7 @@ fn standing(t: &[u8], h: Header, file: usize, mask: &[u8]) -> Stood
         }
     }
     Stood {
-        records: m,
+        records: count,
         setless: sets == 0,
     }
 }
@@ -101,11 +91,10 @@ fn outcome(count: usize, m: usize) -> Checked
     requires { (count ≤ 4096) × (m ≤ count) }
     ensures { result ≡ outcome_of count m }
 {
-    let k = m + 1;
-    if k <= count {
-        return Checked::Bad(k as u32);
+    if m < count {
+        return Err(m as u32 + 1);
     }
-    Checked::Sound(count as u32)
+    Ok(count as u32)
 }
 
 // The records of a table, under its header: first each in its place, then the sets of those that stand.
@@ -126,19 +115,13 @@ pub fn check(t: &[u8], file: usize) -> Checked
     ensures { result ≡ check_table t.now file }
 {
     if t.len() < BLOCK {
-        return Checked::Bad(0);
+        return Err(0);
     }
     let b = block(t, 0);
     let h = Header::read(b);
-    let count = h.count as usize;
     let mask = run::mask();
-    if header::sound(b, &mask) {
-        if t.len() == BLOCK * (count + 1) {
-            records(t, h, file, &mask)
-        } else {
-            Checked::Bad(0)
-        }
-    } else {
-        Checked::Bad(0)
+    if !header::sound(b, &mask) || t.len() != BLOCK * (h.count as usize + 1) {
+        return Err(0);
     }
+    records(t, h, file, &mask)
 }

@@ -14,6 +14,7 @@ use record::sets;
 pub const SLOTS: usize = 4608;
 
 // A slot is 0, or a block's number with three bits of its hash above it, so that few blocks of other sets are looked at.
+// A number and no Option: that takes two words for one, and all slots are cleared at every check.
 pub const TAG: usize = 8192;
 
 pub fn tag(hash: usize) -> usize
@@ -22,18 +23,12 @@ pub fn tag(hash: usize) -> usize
     hash / SLOTS % 8
 }
 
-fn wide(x: u16) -> usize
-    ensures { result ≡ x }
-{
-    x as usize
-}
-
 // The slot at a place.
 pub fn slot(slots: &[u16], at: usize) -> usize
     requires { at < length slots.now }
     ensures { result ≡ slice_index slots.now at }
 {
-    wide(slots[at])
+    slots[at] as usize
 }
 
 // Whether block k's set is looked for no further than a slot.
@@ -41,22 +36,16 @@ fn stops(t: &[u8], hash: usize, k: usize, word: usize) -> bool
     requires { (word % 8192 < k) × (512 * k + 512 ≤ length t.now) }
     ensures { result ≡ stops_at t.now hash k word }
 {
-    if word == 0 {
-        return true;
-    }
-    if word / TAG == tag(hash) {
-        sets::same_set(block(t, word % TAG), block(t, k))
-    } else {
-        false
-    }
+    word == 0 || (word / TAG == tag(hash) && sets::same_set(block(t, word % TAG), block(t, k)))
 }
 
 // The place of the first slot of a hash at which block k's set is looked for no further.
-fn find(t: &[u8], slots: &[u16], hash: usize, k: usize) -> usize
+fn find(t: &[u8], slots: &[u16; SLOTS], hash: usize, k: usize) -> usize
     requires { Remembers t.now slots.now k × (k ≤ 4096) × (512 * k + 512 ≤ length t.now) }
     ensures { SlotFound t.now slots.now hash k result × (result < 4608) }
 {
     let home = hash % SLOTS;
+    // By index: the places go round, and more slots than records say that one of them stops it.
     let mut i = 0;
     loop {
         let at = (home + i) % SLOTS;
@@ -68,7 +57,7 @@ fn find(t: &[u8], slots: &[u16], hash: usize, k: usize) -> usize
 }
 
 // Whether block k agrees with the one in the slot where its set was looked for, if there is one; if not, block k is remembered there.
-fn held(t: &[u8], slots: &mut [u16], hash: usize, k: usize, at: usize) -> bool
+fn held(t: &[u8], slots: &mut [u16; SLOTS], hash: usize, k: usize, at: usize) -> bool
     requires { (1 ≤ k) × (k ≤ 4096) × (at < 4608) × (512 * k + 512 ≤ length t.now) × Remembers t.now slots.old k × Agreed t.now k
         × SlotFound t.now slots.old hash k at × (hash ≡ hash_of (block_of t.now k)) }
     ensures { (result ≡ agrees_at t.now k) × Remembers t.now slots.new (k + 1) }
@@ -82,7 +71,7 @@ fn held(t: &[u8], slots: &mut [u16], hash: usize, k: usize, at: usize) -> bool
 }
 
 // Whether block k agrees with every record of its set before it, those being remembered.
-fn agrees_by(t: &[u8], slots: &mut [u16], k: usize) -> bool
+fn agrees_by(t: &[u8], slots: &mut [u16; SLOTS], k: usize) -> bool
     requires { (1 ≤ k) × (k ≤ 4096) × (512 * k + 512 ≤ length t.now) × Remembers t.now slots.old k × Agreed t.now k }
     ensures { (result ≡ agrees_at t.now k) × Remembers t.now slots.new (k + 1) }
 {
@@ -101,13 +90,10 @@ pub fn agreeing(t: &[u8], n: usize) -> usize
     ensures { (result ≡ leading (agrees_at t.now) n 1) × (result ≤ n) }
 {
     let mut slots = [0u16; SLOTS];
-    let mut m = 0;
-    while m < n {
-        if agrees_by(t, &mut slots, m + 1) {
-            m += 1;
-        } else {
+    for m in 0..n {
+        if !agrees_by(t, &mut slots, m + 1) {
             return m;
         }
     }
-    m
+    n
 }

@@ -1,5 +1,6 @@
 -- A file that does not fit is judged by what was read of it: no table of more than 4,097 blocks is sound, nor a vector file of more than 4,096, and its
 -- first bad block is among the first 4,097.
+use Rattle.std.specs.Prelude.{Err}
 use Rattle.octets.specs.Standard.{ℕ, zero, suc, ◌+◌, ◌*◌, ◌≤◌, ◌<◌, Bool, true, false, ◌&&◌, cond, true≢false, ◌≡◌, refl, sym, ap, ◌∙◌, List, [], ◌∷◌}
 use Rattle.octets.specs.Standard.{arith, leb, eqb, length, take, drop, length-take, eqb-true, eqb-false, le-leb, leb-true, leb-false, length-take-le, take-take}
 use Rattle.record.specs.Fields.{count_of}
@@ -9,15 +10,14 @@ use Rattle.blocks.specs.Blocks.{block_of, first_bad}
 use Rattle.table.specs.Area.{size_in, table_in, check_area}
 use Rattle.table.specs.Check.{check_records, check_table}
 use Rattle.table.proofs.Areas.{in_all, read_alike}
-use Rattle.blocks.specs.declared.Checked.TheVariants.{Bad}
 use Rattle.vectors.specs.VectorFile.{pieces_of, sound_piece, check_vectors}
 
-pub long_bad : (t : List ℕ) (file : ℕ) → 2097664 < length t → check_table t file ≡ Bad 0
+pub long_bad : (t : List ℕ) (file : ℕ) → 2097664 < length t → check_table t file ≡ Err 0
 unfolding check_table
 long_bad t file h = go (leb 512 (length t)) (sound_header (block_of t 0)) (eqb (length t) (512 * ((header_of (block_of t 0)).count + 1))) refl refl
   where
     go : (x y z : Bool) → sound_header (block_of t 0) ≡ y → eqb (length t) (512 * ((header_of (block_of t 0)).count + 1)) ≡ z
-        → cond (x && y && z) (check_records t (header_of (block_of t 0)) file) (Bad 0) ≡ Bad 0
+        → cond (x && y && z) (check_records t (header_of (block_of t 0)) file) (Err 0) ≡ Err 0
     go true true true e f =
         let n : (header_of (block_of t 0)).count ≤ 4096 = header_count (block_of t 0) (header_of (block_of t 0)) refl refl e in
         absurd (omega (arith, eqb-true (length t) (512 * ((header_of (block_of t 0)).count + 1)) f))
@@ -73,7 +73,7 @@ bad_alike good other count others (suc n) (suc m) k j a b c e h =
     rw (h k a) (go (good k) refl (eqb k j) refl (λ l. bad_alike good other count others n m (suc k) j l (omega arith) (omega arith) e h))
   where
     go : (x : Bool) → good k ≡ x → (y : Bool) → eqb k j ≡ y → (suc k ≤ j → first_bad other others m (suc k) ≡ first_bad good count n (suc k))
-        → cond x (first_bad other others m (suc k)) (Bad k) ≡ cond x (first_bad good count n (suc k)) (Bad k)
+        → cond x (first_bad other others m (suc k)) (Err k) ≡ cond x (first_bad good count n (suc k)) (Err k)
     go false f y g r = refl
     go true f true g r = let q : k ≡ j = eqb-true k j g in absurd (true≢false (sym f ∙ rw q e))
     go true f false g r = r (omega (arith, eqb-false k j g))

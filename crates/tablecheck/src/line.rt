@@ -11,8 +11,8 @@ pub fn put_line(out: &mut [u8], c: Checked) -> usize
     ensures { (result ≤ 40) × Line c out.old out.new result }
 {
     match c {
-        Checked::Sound(n) => put_words(out, b"sound, ", n as u64, b" records\n"),
-        Checked::Bad(k) => put_words(out, b"block ", k as u64, b" is bad\n"),
+        Ok(n) => put_words(out, b"sound, ", n as u64, b" records\n"),
+        Err(k) => put_words(out, b"block ", k as u64, b" is bad\n"),
     }
 }
 
@@ -24,13 +24,13 @@ pub fn put_past_line(out: &mut [u8], n: u64) -> usize
     put_words(out, b"", n, b" bytes past the table were not looked at\n")
 }
 
-// The line of a vector file.
+// The line of a vector file. A function of its own: a common one would take all four texts, and say less.
 pub fn put_vectors_line(out: &mut [u8], c: Checked) -> usize
     requires { 50 ≤ length out.old }
     ensures { (result ≤ 50) × VectorsLine c out.old out.new result }
 {
     match c {
-        Checked::Sound(n) => put_words(out, b"vectors sound, ", n as u64, b" blocks\n"),
-        Checked::Bad(k) => put_words(out, b"vector block ", k as u64, b" is bad\n"),
+        Ok(n) => put_words(out, b"vectors sound, ", n as u64, b" blocks\n"),
+        Err(k) => put_words(out, b"vector block ", k as u64, b" is bad\n"),
     }
 }

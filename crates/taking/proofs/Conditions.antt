@@ -1,4 +1,5 @@
 -- The trials as conditions: each test says what its sentence says, and the other way round.
+use Rattle.std.specs.Prelude.{Result, Ok, Err}
 use Rattle.octets.specs.Standard.{ℕ, zero, suc, ◌+◌, ◌*◌, ◌/◌, ◌^◌, ◌<◌, ◌≤◌, Bool, true, false, ◌&&◌, ◌||◌, not, true≢false, ◌≡◌, refl, sym, ◌∙◌, ap, ◌⊎◌}
 use Rattle.octets.specs.Standard.{inl, inr, List, arith, eqb, ltb, length, get_or, eqb-true, eq-eqb, ne_eqb, ltb-true, ltb-false, lt-ltb, le-ltb}
 use mathlib.Core.Bool.{not-not}
@@ -12,13 +13,10 @@ use Rattle.record.proofs.Tests.{HeaderTests, header_says}
 use Rattle.blocks.specs.Blocks.{block_of}
 use Rattle.blocks.proofs.Blocks.{block_bytes}
 use Rattle.table.specs.Check.{check_table}
-use Rattle.blocks.specs.declared.Checked.{Checked}
-use Rattle.blocks.specs.declared.Checked.TheVariants.{Sound, Bad}
 use Rattle.table.proofs.Sound.{table_says}
 use Rattle.taking.specs.Found.{holds_issue, greater_at, greater_than_all}
 use Rattle.taking.specs.TakeOver.{is_sound, unfit, not_greater, too_short, came, refusing, take_over}
 use Rattle.taking.specs.Ended.{Fit, Found, Greater, Unfit, Unissued, Short, Takes}
-use Rattle.taking.specs.declared.Taken.TheVariants.{Took}
 
 -- A test and its opposite.
 pub not_true : (x : Bool) → not x ≡ true → x ≡ false
@@ -80,7 +78,7 @@ module _ (area : List ℕ) (issue : ℕ) where
 
 -- The new table.
 module _ (fresh : List ℕ) (file : ℕ) where
-  second : (n : ℕ) → check_table fresh file ≡ Sound n → eqb (edition_of (block_of fresh 0)) 1 ≡ false → edition_of (block_of fresh 0) ≡ 2
+  second : (n : ℕ) → check_table fresh file ≡ Ok n → eqb (edition_of (block_of fresh 0)) 1 ≡ false → edition_of (block_of fresh 0) ≡ 2
   unfolding header_of
   second n e f =
       let h : HeaderTests (block_of fresh 0) = header_says (block_of fresh 0) (table_says fresh file n e).header in
@@ -90,9 +88,9 @@ module _ (fresh : List ℕ) (file : ℕ) where
   unfolding unfit
   fit_says e = go (check_table fresh file) refl e
     where
-      go : (c : Checked) → check_table fresh file ≡ c → (not (is_sound c) || eqb (edition_of (block_of fresh 0)) 1) ≡ false → (count : ℕ) × Fit fresh file count
-      go (Sound n) f g = (n, record { checked = f; edition = second n f g })
-      go (Bad k) f g = absurd (true≢false g)
+      go : (c : Result ℕ ℕ) → check_table fresh file ≡ c → (not (is_sound c) || eqb (edition_of (block_of fresh 0)) 1) ≡ false → (count : ℕ) × Fit fresh file count
+      go (Ok n) f g = (n, record { checked = f; edition = second n f g })
+      go (Err k) f g = absurd (true≢false g)
 
   pub fit_holds : (count : ℕ) → Fit fresh file count → unfit fresh file ≡ false
   unfolding unfit
@@ -102,18 +100,18 @@ module _ (fresh : List ℕ) (file : ℕ) where
   unfolding unfit
   unfit_says e = go (check_table fresh file) refl e
     where
-      go : (c : Checked) → check_table fresh file ≡ c → (not (is_sound c) || eqb (edition_of (block_of fresh 0)) 1) ≡ true → Unfit fresh file
-      go (Sound n) f g = inr (eqb-true _ _ g)
-      go (Bad k) f g = inl (k, f)
+      go : (c : Result ℕ ℕ) → check_table fresh file ≡ c → (not (is_sound c) || eqb (edition_of (block_of fresh 0)) 1) ≡ true → Unfit fresh file
+      go (Ok n) f g = inr (eqb-true _ _ g)
+      go (Err k) f g = inl (k, f)
 
   pub unfit_holds : Unfit fresh file → unfit fresh file ≡ true
   unfolding unfit
   unfit_holds (inl w) = rw w.1
   unfit_holds (inr e) = go (check_table fresh file)
     where
-      go : (c : Checked) → (not (is_sound c) || eqb (edition_of (block_of fresh 0)) 1) ≡ true
-      go (Sound n) = eq-eqb _ _ e
-      go (Bad k) = refl
+      go : (c : Result ℕ ℕ) → (not (is_sound c) || eqb (edition_of (block_of fresh 0)) 1) ≡ true
+      go (Ok n) = eq-eqb _ _ e
+      go (Err k) = refl
 
   pub fit_size : (count : ℕ) → Fit fresh file count → length fresh ≡ 512 * (count + 1)
   fit_size count f = (table_says fresh file count f.checked).size
@@ -150,7 +148,7 @@ module _ (area fresh : List ℕ) (file : ℕ) where
       let l : length area < length fresh = omega (arith, s.size, fit_size fresh file s.count s.fit) in
       rw (fit_holds fresh file s.count s.fit, greater_holds area (issue_of (block_of fresh 0)) s.greater, lt-ltb (length area) (length fresh) l)
 
-  pub is_taken : (count : ℕ) → Takes area fresh file count → take_over area fresh file ≡ came (Took count) (over fresh area)
+  pub is_taken : (count : ℕ) → Takes area fresh file count → take_over area fresh file ≡ came (Ok count) (over fresh area)
   unfolding take_over not_greater too_short
   is_taken count t =
       let l : length fresh ≤ length area = omega (arith, t.size, fit_size fresh file count t.fit) in

@@ -1,4 +1,5 @@
 -- How an area reads of which some blocks are the new table's, and all others as they were.
+use Rattle.std.specs.Prelude.{Result, Ok, Err}
 use Rattle.octets.specs.Standard.{ℕ, zero, suc, ◌+◌, ◌-◌, ◌*◌, ◌<◌, ◌≤◌, min, Bool, true, false, ◌&&◌, not, cond, true≢false, ◌≡◌, refl, sym, ◌∙◌, ap}
 use Rattle.octets.specs.Standard.{◌⊎◌, inl, inr, List, ◌++◌, arith, eqb, leb, ltb, length, take, drop, take-append-drop, length-take, length-take-le}
 use Rattle.octets.specs.Standard.{drop-drop, le_of_lt, eq-eqb, le-leb, leb-true, leb-false, ltb-true, ltb-false}
@@ -9,8 +10,6 @@ use Rattle.record.specs.HeaderBlock.{header_of, sound_header}
 use Rattle.record.specs.RecordBlock.{sound_record}
 use Rattle.record.specs.declared.header.Header.{Header}
 use Rattle.blocks.specs.Blocks.{block_of, table_of, first_bad}
-use Rattle.blocks.specs.declared.Checked.{Checked}
-use Rattle.blocks.specs.declared.Checked.TheVariants.{Sound, Bad}
 use Rattle.blocks.proofs.Blocks.{block_length, table_same, table_front, table_is, table_length, table_block, front_block, take_block, past_block}
 use Rattle.blocks.proofs.Blocks.{front_length}
 use Rattle.blocks.proofs.First.{FirstNot, good_each, bad_says, bad_holds}
@@ -30,10 +29,10 @@ module _ (old new : ℕ → Bool) (count n from k : ℕ) (above : from ≤ k) (b
   pub first_lower : first_bad new count n from ≡ lower_bad k (first_bad old count n from)
   first_lower = go (first_bad old count n from) refl
     where
-      at_k : ((i : ℕ) → from ≤ i → i < k → old i ≡ true) → first_bad new count n from ≡ Bad k
+      at_k : ((i : ℕ) → from ≤ i → i < k → old i ≡ true) → first_bad new count n from ≡ Err k
       at_k good = bad_holds new count n from k (record { from = above; to = below; here = here; before = λ i a b. before i a b ∙ good i a b })
 
-      at_j : (j : ℕ) → FirstNot old n from j → (x : Bool) → ltb j k ≡ x → first_bad new count n from ≡ Bad (min j k)
+      at_j : (j : ℕ) → FirstNot old n from j → (x : Bool) → ltb j k ≡ x → first_bad new count n from ≡ Err (min j k)
       at_j j s true e =
           let l : j < k = ltb-true j k e in
           let m : min j k ≡ j = omega arith in
@@ -50,9 +49,9 @@ module _ (old new : ℕ → Bool) (count n from k : ℕ) (above : from ≤ k) (b
           let m : min j k ≡ k = omega arith in
           rw m (at_k (λ i a b. s.before i a (omega arith)))
 
-      go : (c : Checked) → first_bad old count n from ≡ c → first_bad new count n from ≡ lower_bad k c
-      go (Sound m) e = at_k (λ i a b. good_each old count m n from e i a (omega arith))
-      go (Bad j) e = at_j j (bad_says old count n from j e) (ltb j k) refl
+      go : (c : Result ℕ ℕ) → first_bad old count n from ≡ c → first_bad new count n from ≡ lower_bad k c
+      go (Ok m) e = at_k (λ i a b. good_each old count m n from e i a (omega arith))
+      go (Err j) e = at_j j (bad_says old count n from j e) (ltb j k) refl
 
 -- the blocks that are written are the new table's, and all others as they were
 pub record Holds (area fresh x : List ℕ) (count : ℕ) (written : ℕ → Bool) : Type 0 where
@@ -142,7 +141,7 @@ module _ (area fresh : List ℕ) (file count : ℕ) (t : Takes area fresh file c
           (λ j l. near is_new j (omega (arith, m.to)) ∙ w.new j (omega (arith, m.to)) (m.before j (omega arith)))
           ∙ tests.each i a (omega (arith, m.to))
 
-      pub reads_missing : check_area x file ≡ Bad k
+      pub reads_missing : check_area x file ≡ Err k
       unfolding check_area check_table check_records
       reads_missing =
           rw (
@@ -219,7 +218,7 @@ module _ (area fresh : List ℕ) (file count : ℕ) (t : Takes area fresh file c
       reads_within = rw (in_first x ∙ same_head is_old, in_first area, same_length is_old) (go (heads (table_in area)) refl)
         where
           go : (y : Bool) → heads (table_in area) ≡ y
-              → cond y (check_records (table_in x) old file) (Bad 0) ≡ lower_bad k (cond y (check_records (table_in area) old file) (Bad 0))
+              → cond y (check_records (table_in x) old file) (Err 0) ≡ lower_bad k (cond y (check_records (table_in area) old file) (Err 0))
           go false e = let z : min 0 k ≡ 0 = omega arith in rw z
           go true e =
               first_lower (sound_at (table_in area) old file) (sound_at (table_in x) old file) old.count old.count 1 k (omega (arith, m.from)) within_count
@@ -366,9 +365,9 @@ module _ (area : List ℕ) (chosen : ℕ → Bool) (count : ℕ) where
       inside : ℕ
       inside = min count (count_of (block_of area 0))
 
-      missing : chosen 0 ≡ true → (c : Checked) → first_bad chosen 0 (count + 1) 0 ≡ c → AllChosen chosen count ⊎ ((k : ℕ) × FirstMissing chosen count k)
-      missing is (Sound n) e = inl (λ j l. good_each chosen 0 n (count + 1) 0 e j (omega arith) (omega arith))
-      missing is (Bad k) e =
+      missing : chosen 0 ≡ true → (c : Result ℕ ℕ) → first_bad chosen 0 (count + 1) 0 ≡ c → AllChosen chosen count ⊎ ((k : ℕ) × FirstMissing chosen count k)
+      missing is (Ok n) e = inl (λ j l. good_each chosen 0 n (count + 1) 0 e j (omega arith) (omega arith))
+      missing is (Err k) e =
           let s : FirstNot chosen (count + 1) 0 k = bad_says chosen 0 (count + 1) 0 k e in
           inr (k, record { from = some k s.here; to = omega (arith, s.to); here = s.here; before = λ j l. s.before j (omega arith) l })
         where
@@ -379,10 +378,10 @@ module _ (area : List ℕ) (chosen : ℕ → Bool) (count : ℕ) where
       unchosen : ℕ → Bool
       unchosen j = not (chosen j)
 
-      within : chosen 0 ≡ false → (c : Checked) → first_bad unchosen 0 (inside + 1) 0 ≡ c
+      within : chosen 0 ≡ false → (c : Result ℕ ℕ) → first_bad unchosen 0 (inside + 1) 0 ≡ c
           → NoneWithin area chosen count ⊎ ((k : ℕ) × FirstWithin area chosen count k)
-      within is (Sound n) e = inl (λ j l m. not_true (chosen j) (good_each unchosen 0 n (inside + 1) 0 e j (omega arith) (omega arith)))
-      within is (Bad k) e =
+      within is (Ok n) e = inl (λ j l m. not_true (chosen j) (good_each unchosen 0 n (inside + 1) 0 e j (omega arith) (omega arith)))
+      within is (Err k) e =
           let s : FirstNot unchosen (inside + 1) 0 k = bad_says unchosen 0 (inside + 1) 0 k e in
           let here : chosen k ≡ true = not_false (chosen k) s.here in
           inr (

@@ -1,11 +1,11 @@
 -- What an outcome says of its condition, what a success leaves, what a cut leaves, and what mends it.
+use Rattle.std.specs.Prelude.{Ok, Err}
 use Rattle.octets.specs.Standard.{ℕ, suc, ◌+◌, ◌*◌, ◌<◌, ◌≤◌, Bool, true, false, ◌≡◌, refl, sym, ◌∙◌, ap, ◌⊎◌, inl, inr, List, arith, eqb, ltb}
 use Rattle.octets.specs.Standard.{length, drop, drop_at, eqb-true, eqb-false, lt-ltb, le-ltb}
 use Rattle.octets.specs.Run.{over}
 use Rattle.octets.proofs.Writes.{over_length}
 use Rattle.record.specs.Fields.{issue_of}
 use Rattle.blocks.specs.Blocks.{block_of, table_of}
-use Rattle.blocks.specs.declared.Checked.TheVariants.{Sound, Bad}
 use Rattle.blocks.proofs.Blocks.{table_same, table_is}
 use Rattle.table.specs.Area.{table_in, check_area}
 use Rattle.table.specs.Check.{check_table}
@@ -14,21 +14,21 @@ use Rattle.taking.specs.Ended.{Fit, Found, Unfit, Unissued, Short, Takes, Ended}
 use Rattle.taking.specs.TakeOver.{AfterTake, came, refusing, take_over}
 use Rattle.taking.specs.Torn.{AllChosen, FirstMissing, NoneWithin, FirstWithin, lower_bad, Torn}
 use Rattle.taking.specs.Written.{with_block, cut_after, torn_at, torn_after}
-use Rattle.taking.specs.declared.Taken.{Taken}
-use Rattle.taking.specs.declared.Taken.TheVariants.{Took, Refused}
+use Rattle.taking.specs.TakeOver.{Taken, refused}
+use Rattle.taking.specs.declared.Refusal.{Refusal}
 use Rattle.taking.proofs.Conditions.{fit_size, fit_count, is_unfit, is_unissued, is_short, is_taken, ways}
 use Rattle.taking.proofs.Mixed.{Holds, reads_new, reads_missing, reads_past, reads_within, found_new, found_most, cut_holds, torn_holds}
 use Rattle.taking.proofs.Mixed.{FourWays, four_ways}
 use Rattle.taking.proofs.Turns as turns
 
 -- An outcome is one thing only.
-refused_same : (i j : ℕ) → Refused i ≡ Refused j → i ≡ j
-refused_same i j e = cc
+refused_same : (i j : ℕ) → refused i ≡ refused j → i ≡ j
+refused_same i j e = let r : ◌≡◌ {A = Refusal} (record { number = i }) (record { number = j }) = cc in ap (λ (x : Refusal). x.number) r
 
-took_same : (i j : ℕ) → Took i ≡ Took j → i ≡ j
+took_same : (i j : ℕ) → ◌≡◌ {A = Taken} (Ok i) (Ok j) → i ≡ j
 took_same i j e = cc
 
-refused_took : {A : Type 0} (i j : ℕ) → Refused i ≡ Took j → A
+refused_took : {A : Type 0} (i j : ℕ) → ◌≡◌ {A = Taken} (refused i) (Ok j) → A
 refused_took i j e = let z : ◌≡◌ {A = ℕ} 0 1 = cc in absurd (omega arith)
 
 pub came_same : {r s : Taken} {x y : List ℕ} → came r x ≡ came s y → (r ≡ s) × (x ≡ y)
@@ -47,43 +47,43 @@ module _ (area fresh : List ℕ) (file : ℕ) where
       go (inr (inr (inl s))) = inr (inr (inl (said (is_short area fresh file s) e, s)))
       go (inr (inr (inr w))) = inr (inr (inr (w.0, said (is_taken area fresh file w.0 w.1) e, w.1)))
 
-  pub refused_nine : (take_over area fresh file).taken ≡ Refused 9 → Unfit fresh file
-  refused_nine e = go (ended (Refused 9) e)
+  pub refused_nine : (take_over area fresh file).taken ≡ refused 9 → Unfit fresh file
+  refused_nine e = go (ended (refused 9) e)
     where
-      go : Ended area fresh file (Refused 9) → Unfit fresh file
+      go : Ended area fresh file (refused 9) → Unfit fresh file
       go (inl w) = w.1
       go (inr (inl w)) = let q : ◌≡◌ {A = ℕ} 9 10 = refused_same 9 10 w.0 in absurd (omega arith)
       go (inr (inr (inl w))) = let q : ◌≡◌ {A = ℕ} 9 11 = refused_same 9 11 w.0 in absurd (omega arith)
       go (inr (inr (inr w))) = refused_took 9 w.0 w.1
 
-  pub refused_ten : (take_over area fresh file).taken ≡ Refused 10 → Unissued area fresh file
-  refused_ten e = go (ended (Refused 10) e)
+  pub refused_ten : (take_over area fresh file).taken ≡ refused 10 → Unissued area fresh file
+  refused_ten e = go (ended (refused 10) e)
     where
-      go : Ended area fresh file (Refused 10) → Unissued area fresh file
+      go : Ended area fresh file (refused 10) → Unissued area fresh file
       go (inl w) = let q : ◌≡◌ {A = ℕ} 10 9 = refused_same 10 9 w.0 in absurd (omega arith)
       go (inr (inl w)) = w.1
       go (inr (inr (inl w))) = let q : ◌≡◌ {A = ℕ} 10 11 = refused_same 10 11 w.0 in absurd (omega arith)
       go (inr (inr (inr w))) = refused_took 10 w.0 w.1
 
-  pub refused_eleven : (take_over area fresh file).taken ≡ Refused 11 → Short area fresh file
-  refused_eleven e = go (ended (Refused 11) e)
+  pub refused_eleven : (take_over area fresh file).taken ≡ refused 11 → Short area fresh file
+  refused_eleven e = go (ended (refused 11) e)
     where
-      go : Ended area fresh file (Refused 11) → Short area fresh file
+      go : Ended area fresh file (refused 11) → Short area fresh file
       go (inl w) = let q : ◌≡◌ {A = ℕ} 11 9 = refused_same 11 9 w.0 in absurd (omega arith)
       go (inr (inl w)) = let q : ◌≡◌ {A = ℕ} 11 10 = refused_same 11 10 w.0 in absurd (omega arith)
       go (inr (inr (inl w))) = w.1
       go (inr (inr (inr w))) = refused_took 11 w.0 w.1
 
-  pub took : (count : ℕ) → (take_over area fresh file).taken ≡ Took count → Takes area fresh file count
-  took count e = go (ended (Took count) e)
+  pub took : (count : ℕ) → (take_over area fresh file).taken ≡ Ok count → Takes area fresh file count
+  took count e = go (ended (Ok count) e)
     where
-      go : Ended area fresh file (Took count) → Takes area fresh file count
+      go : Ended area fresh file (Ok count) → Takes area fresh file count
       go (inl w) = refused_took 9 count (sym w.0)
       go (inr (inl w)) = refused_took 10 count (sym w.0)
       go (inr (inr (inl w))) = refused_took 11 count (sym w.0)
       go (inr (inr (inr w))) = rw (took_same count w.0 w.1) w.2
 
-  pub leaves : (number : ℕ) → (take_over area fresh file).taken ≡ Refused number → (take_over area fresh file).area ≡ area
+  pub leaves : (number : ℕ) → (take_over area fresh file).taken ≡ refused number → (take_over area fresh file).area ≡ area
   leaves number e = go (ways area fresh file)
     where
       kept : {n : ℕ} → take_over area fresh file ≡ refusing area n → (take_over area fresh file).area ≡ area
@@ -116,7 +116,7 @@ module _ (area fresh : List ℕ) (file count : ℕ) (t : Takes area fresh file c
       ∙ reads_new area fresh file count t (cut_after area fresh (count + 1)) (λ (j : ℕ). ltb j (count + 1))
       (cut_holds area fresh file count t (count + 1) (omega arith)) (lt-ltb 0 (count + 1) (omega arith)) (λ j l. lt-ltb j (count + 1) (omega arith))
 
-  pub done_reads : check_area (over fresh area) file ≡ Sound count
+  pub done_reads : check_area (over fresh area) file ≡ Ok count
   unfolding check_area
   done_reads = ap (λ (z : List ℕ). check_table z file) done_in ∙ t.fit.checked
 
@@ -128,7 +128,7 @@ module _ (area fresh : List ℕ) (file count : ℕ) (t : Takes area fresh file c
   done_length = over_length fresh area (omega (arith, size, t.size))
 
   -- a cut after k blocks
-  pub cut_between : (k : ℕ) → 0 < k → k ≤ count → check_area (cut_after area fresh k) file ≡ Bad k
+  pub cut_between : (k : ℕ) → 0 < k → k ≤ count → check_area (cut_after area fresh k) file ≡ Err k
   cut_between k a b =
       reads_missing area fresh file count t (cut_after area fresh k) (λ (j : ℕ). ltb j k) (cut_holds area fresh file count t k (omega arith)) k
       (record { from = a; to = b; here = le-ltb k k (omega arith); before = λ j l. lt-ltb j k l })
@@ -155,7 +155,7 @@ module _ (area fresh : List ℕ) (file count : ℕ) (t : Takes area fresh file c
     pub torn_all : AllChosen chosen count → table_in x ≡ fresh
     torn_all h = reads_new area fresh file count t x chosen w (h 0 (omega arith)) h
 
-    pub torn_missing : (k : ℕ) → FirstMissing chosen count k → check_area x file ≡ Bad k
+    pub torn_missing : (k : ℕ) → FirstMissing chosen count k → check_area x file ≡ Err k
     torn_missing k m = reads_missing area fresh file count t x chosen w k m
 
     pub torn_past : NoneWithin area chosen count → table_in x ≡ table_in area

@@ -1,6 +1,7 @@
 -- What is proved of taking over a new table, on one page: the statements alone, each by the law that has its proof.
 -- Provided "that a block is written whole", so that an area after a cut is one of `cut_after` or `torn_after`; and that "the profile file stays": the check asks
 -- for its length alone, and `file` is that one length before, between and after.
+use Rattle.std.specs.Prelude.{Ok, Err}
 use Rattle.octets.specs.Standard.{ℕ, ◌+◌, ◌*◌, ◌/◌, ◌<◌, ◌≤◌, Bool, true, false, ◌≡◌, ◌≢◌, sym, ◌∙◌, ap, inl, List, ◌++◌, ltb, length, take}
 use Rattle.octets.specs.Standard.{drop}
 use Rattle.octets.specs.Run.{over}
@@ -8,7 +9,6 @@ use Rattle.octets.proofs.Numbers.{Bytes}
 use Rattle.record.specs.Fields.{count_of, issue_of}
 use Rattle.blocks.specs.Blocks.{block_of}
 use Rattle.blocks.specs.Changed.{changed_in}
-use Rattle.blocks.specs.declared.Checked.TheVariants.{Sound, Bad}
 use Rattle.table.specs.Area.{size_in, table_in, check_area}
 use Rattle.table.specs.Check.{check_table}
 use Rattle.taking.specs.Cut.{Cut}
@@ -16,8 +16,7 @@ use Rattle.taking.specs.Ended.{Fit, Found, Unfit, Unissued, Short, Takes, Ended}
 use Rattle.taking.specs.TakeOver.{AfterTake, came, refusing, take_over}
 use Rattle.taking.specs.Torn.{AllChosen, FirstMissing, NoneWithin, FirstWithin, lower_bad, Torn}
 use Rattle.taking.specs.Written.{with_block, cut_after, torn_after, zeroed_after, zeroed_where}
-use Rattle.taking.specs.declared.Taken.{Taken}
-use Rattle.taking.specs.declared.Taken.TheVariants.{Took, Refused}
+use Rattle.taking.specs.TakeOver.{Taken, refused}
 use Rattle.table.proofs.Areas as areas
 use Rattle.taking.proofs.Conditions as conditions
 use Rattle.taking.proofs.Mixed as mixed
@@ -27,7 +26,7 @@ use Rattle.taking.proofs.Zeros as zeros
 
 -- "The working area may be longer than the table: when a request or the check reads it, blocks past the count, and a last piece under 512 bytes, are not
 -- looked at": a sound table reads as itself with anything behind it; areas that are the same up to the count read the same;
-pub read_front : (t rest : List ℕ) (file count : ℕ) → check_table t file ≡ Sound count → table_in (t ++ rest) ≡ t
+pub read_front : (t rest : List ℕ) (file count : ℕ) → check_table t file ≡ Ok count → table_in (t ++ rest) ≡ t
 read_front t rest file count e = areas.read_front t rest (areas.sound_size_in t file count e)
 
 pub read_alike : (area other : List ℕ) → take (size_in area) other ≡ take (size_in area) area → table_in other ≡ table_in area
@@ -42,7 +41,7 @@ read_past area k change past fits = areas.read_past area k change past fits
 pub read_exact : (area : List ℕ) (file : ℕ) → length area ≡ size_in area → check_area area file ≡ check_table area file
 read_exact area file h = areas.check_exact area file h
 
-pub read_short : (area : List ℕ) (file : ℕ) → length area < size_in area → check_area area file ≡ Bad 0
+pub read_short : (area : List ℕ) (file : ℕ) → length area < size_in area → check_area area file ≡ Err 0
 read_short area file h = areas.check_short area file h
 
 -- "A new edition 2 table is written over the working area block by block from block 0": nothing yet (a block more is `cut_more`, and all are `cut_all`).
@@ -66,31 +65,31 @@ module _ (area fresh : List ℕ) (file : ℕ) where
   eleven s = conditions.is_short area fresh file s
 
   -- and else the new table is taken, of exactly so many records;
-  pub takes : (count : ℕ) → Takes area fresh file count → take_over area fresh file ≡ came (Took count) (over fresh area)
+  pub takes : (count : ℕ) → Takes area fresh file count → take_over area fresh file ≡ came (Ok count) (over fresh area)
   takes count t = conditions.is_taken area fresh file count t
 
   -- each under no other condition, and no other number.
-  pub only_nine : (take_over area fresh file).taken ≡ Refused 9 → Unfit fresh file
+  pub only_nine : (take_over area fresh file).taken ≡ refused 9 → Unfit fresh file
   only_nine e = outcomes.refused_nine area fresh file e
 
-  pub only_ten : (take_over area fresh file).taken ≡ Refused 10 → Unissued area fresh file
+  pub only_ten : (take_over area fresh file).taken ≡ refused 10 → Unissued area fresh file
   only_ten e = outcomes.refused_ten area fresh file e
 
-  pub only_eleven : (take_over area fresh file).taken ≡ Refused 11 → Short area fresh file
+  pub only_eleven : (take_over area fresh file).taken ≡ refused 11 → Short area fresh file
   only_eleven e = outcomes.refused_eleven area fresh file e
 
-  pub only_takes : (count : ℕ) → (take_over area fresh file).taken ≡ Took count → Takes area fresh file count
+  pub only_takes : (count : ℕ) → (take_over area fresh file).taken ≡ Ok count → Takes area fresh file count
   only_takes count e = outcomes.took area fresh file count e
 
   pub ended : (r : Taken) → (take_over area fresh file).taken ≡ r → Ended area fresh file r
   ended r e = outcomes.ended area fresh file r e
 
   -- "nothing written": a refusal leaves the area as it came.
-  pub leaves : (number : ℕ) → (take_over area fresh file).taken ≡ Refused number → (take_over area fresh file).area ≡ area
+  pub leaves : (number : ℕ) → (take_over area fresh file).taken ≡ refused number → (take_over area fresh file).area ≡ area
   leaves number e = outcomes.leaves area fresh file number e
 
   -- What holds where the new table is taken. Of the old area nothing is supposed: it may be unsound, cut before, or rubbish.
-  module _ (count : ℕ) (e : (take_over area fresh file).taken ≡ Took count) where
+  module _ (count : ℕ) (e : (take_over area fresh file).taken ≡ Ok count) where
     t : Takes area fresh file count
     t = outcomes.took area fresh file count e
 
@@ -98,7 +97,7 @@ module _ (area fresh : List ℕ) (file : ℕ) where
     pub reads_new : table_in (take_over area fresh file).area ≡ fresh
     reads_new = rw (outcomes.done area fresh file count t) (outcomes.done_in area fresh file count t)
 
-    pub reads : check_area (take_over area fresh file).area file ≡ Sound count
+    pub reads : check_area (take_over area fresh file).area file ≡ Ok count
     reads = rw (outcomes.done area fresh file count t) (outcomes.done_reads area fresh file count t)
 
     pub past : drop (512 * (count + 1)) (take_over area fresh file).area ≡ drop (512 * (count + 1)) area
@@ -119,7 +118,7 @@ module _ (area fresh : List ℕ) (file : ℕ) where
     pub cut : (k : ℕ) → k ≤ count + 1 → Cut area fresh file count k
     cut k h = outcomes.cut area fresh file count t k h
 
-    pub cut_between : (k : ℕ) → 0 < k → k ≤ count → check_area (cut_after area fresh k) file ≡ Bad k
+    pub cut_between : (k : ℕ) → 0 < k → k ≤ count → check_area (cut_after area fresh k) file ≡ Err k
     cut_between k a b = outcomes.cut_between area fresh file count t k a b
 
     -- The same for every set of its blocks, since a disk may write them in another order: one of four ways.
@@ -135,7 +134,7 @@ module _ (area fresh : List ℕ) (file : ℕ) where
       pub torn_all : AllChosen chosen count → torn_after area fresh chosen ≡ (take_over area fresh file).area
       torn_all h = outcomes.torn_done area fresh file count t chosen h ∙ sym (outcomes.done area fresh file count t)
 
-      pub torn_missing : (k : ℕ) → FirstMissing chosen count k → check_area (torn_after area fresh chosen) file ≡ Bad k
+      pub torn_missing : (k : ℕ) → FirstMissing chosen count k → check_area (torn_after area fresh chosen) file ≡ Err k
       torn_missing k m = outcomes.torn_missing area fresh file count t chosen k m
 
       -- Block 0 not in it: if none is within the old header's count, the table read and the check are what they were before, sound or refused;
@@ -158,16 +157,16 @@ module _ (area fresh : List ℕ) (file : ℕ) where
 
       -- It is mended by one that is fit, has a greater issue number and has room, whatever was written.
       pub mended : (other : List ℕ) (n : ℕ) → Fit other file n → issue_of (block_of fresh 0) < issue_of (block_of other 0) → 512 * (n + 1) ≤ length area
-          → take_over (torn_after area fresh chosen) other file ≡ came (Took n) (over other (torn_after area fresh chosen))
+          → take_over (torn_after area fresh chosen) other file ≡ came (Ok n) (over other (torn_after area fresh chosen))
       mended other n f l room =
           conditions.is_taken (torn_after area fresh chosen) other file n (outcomes.mended area fresh file count t chosen other n f l room)
 
 -- Or by zeroing from block 0 up: the area is refused all along, and then takes any fit table that it has room for, the same one too.
-pub zeroing : (area : List ℕ) (file k : ℕ) → 0 < k → check_area (zeroed_after area k) file ≡ Bad 0
+pub zeroing : (area : List ℕ) (file k : ℕ) → 0 < k → check_area (zeroed_after area k) file ≡ Err 0
 zeroing area file k h = zeros.zeroing area k file h
 
 pub zeroed : (area fresh : List ℕ) (file count : ℕ) → Fit fresh file count → 512 * (count + 1) ≤ length area
-    → take_over (zeroed_after area (length area / 512)) fresh file ≡ came (Took count) (over fresh (zeroed_after area (length area / 512)))
+    → take_over (zeroed_after area (length area / 512)) fresh file ≡ came (Ok count) (over fresh (zeroed_after area (length area / 512)))
 zeroed area fresh file count f h =
     conditions.is_taken (zeroed_after area (length area / 512)) fresh file count (zeros.zeroed area fresh file count f h)
 
@@ -184,7 +183,7 @@ zeroed_past area chosen h = zeros.where_reads area chosen h
 -- and a fit table is taken that it has room for, once its issue number is greater than every one found in the other blocks.
 pub zeroed_where_lem : (area fresh : List ℕ) (file count : ℕ) (chosen : ℕ → Bool) → Fit fresh file count → 512 * (count + 1) ≤ length area
     → ((issue : ℕ) (f : Found area issue) → chosen f.block ≡ false → issue < issue_of (block_of fresh 0))
-    → take_over (zeroed_where area chosen) fresh file ≡ came (Took count) (over fresh (zeroed_where area chosen))
+    → take_over (zeroed_where area chosen) fresh file ≡ came (Ok count) (over fresh (zeroed_where area chosen))
 zeroed_where_lem area fresh file count chosen f room rest =
     conditions.is_taken (zeroed_where area chosen) fresh file count (zeros.where_takes area chosen fresh file count f room rest)
 

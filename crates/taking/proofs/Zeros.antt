@@ -1,11 +1,11 @@
 -- An area that is zeroed from block 0 up, and one in which chosen blocks are zeroed.
+use Rattle.std.specs.Prelude.{Err}
 use Rattle.octets.specs.Standard.{ℕ, ◌+◌, ◌*◌, ◌/◌, ◌<◌, ◌≤◌, Bool, true, false, and-false, cond, ◌≡◌, refl, sym, ◌∙◌, ap, ◌⊎◌, inl, inr, List, arith}
 use Rattle.octets.specs.Standard.{leb, ltb, ltb-true, ltb-false, lit<, length, get_or, drop, replicate, length-replicate, get_or-replicate, get_or-take, get_or-drop}
 use Rattle.record.specs.Fields.{count_of, issue_of}
 use Rattle.record.specs.HeaderBlock.{sound_header}
 use Rattle.blocks.specs.Blocks.{block_of, table_of}
 use Rattle.blocks.specs.Changed.{changed_at, changed_all}
-use Rattle.blocks.specs.declared.Checked.TheVariants.{Bad}
 use Rattle.blocks.proofs.Blocks.{block_length, table_same, table_length, table_block, front_block, past_block, front_length}
 use Rattle.table.specs.Area.{table_in, check_area}
 use Rattle.table.specs.Check.{check_table}
@@ -30,7 +30,7 @@ module _ (area : List ℕ) (n : ℕ) where
       rw (front_block (replicate (512 * n) 0) (drop (512 * n) area) k (omega (arith, long))) (zero_kind (512 * n) k (omega arith))
 
   -- without a header it is refused all along,
-  pub zeroing : (file : ℕ) → 0 < n → check_area (zeroed_after area n) file ≡ Bad 0
+  pub zeroing : (file : ℕ) → 0 < n → check_area (zeroed_after area n) file ≡ Err 0
   unfolding check_area check_table
   zeroing file h =
       rw (

@@ -1,15 +1,13 @@
 -- The conditions of the refusals and of success, in words: how a take-over ended, and why.
-use Rattle.std.specs.Prelude.{ℕ, ◌+◌, ◌*◌, ◌<◌, ◌≤◌, List, ◌⊎◌, ◌≡◌, length, get_or}
+use Rattle.std.specs.Prelude.{ℕ, ◌+◌, ◌*◌, ◌<◌, ◌≤◌, List, ◌⊎◌, ◌≡◌, length, get_or, Ok, Err}
 use Rattle.record.specs.Fields.{edition_of, issue_of}
 use Rattle.blocks.specs.Blocks.{block_of}
-use Rattle.blocks.specs.declared.Checked.TheVariants.{Sound, Bad}
 use Rattle.table.specs.Check.{check_table}
-use Rattle.taking.specs.declared.Taken.{Taken}
-use Rattle.taking.specs.declared.Taken.TheVariants.{Took, Refused}
+use Rattle.taking.specs.TakeOver.{Taken, refused}
 
 -- a new table that is fit: sound, of edition 2, with so many records
 pub record Fit (fresh : List ℕ) (file count : ℕ) : Type 0 where
-  pub checked : check_table fresh file ≡ Sound count
+  pub checked : check_table fresh file ≡ Ok count
   pub edition : edition_of (block_of fresh 0) ≡ 2
 
 -- an issue number is found in a whole block of the area
@@ -31,7 +29,7 @@ pub record NotGreater (area fresh : List ℕ) : Type 0 where
 
 -- 9: the new table is unsound, or of edition 1
 abbrev pub Unfit : List ℕ → ℕ → Type 0
-Unfit fresh file = ((k : ℕ) × (check_table fresh file ≡ Bad k)) ⊎ (edition_of (block_of fresh 0) ≡ 1)
+Unfit fresh file = ((k : ℕ) × (check_table fresh file ≡ Err k)) ⊎ (edition_of (block_of fresh 0) ≡ 1)
 
 -- 10: it is fit, and its issue number is not greater
 pub record Unissued (area fresh : List ℕ) (file : ℕ) : Type 0 where
@@ -54,5 +52,5 @@ pub record Takes (area fresh : List ℕ) (file count : ℕ) : Type 0 where
 
 abbrev pub Ended : List ℕ → List ℕ → ℕ → Taken → Type 0
 Ended area fresh file r =
-    ((r ≡ Refused 9) × Unfit fresh file) ⊎ (((r ≡ Refused 10) × Unissued area fresh file)
-    ⊎ (((r ≡ Refused 11) × Short area fresh file) ⊎ ((count : ℕ) × (r ≡ Took count) × Takes area fresh file count)))
+    ((r ≡ refused 9) × Unfit fresh file) ⊎ (((r ≡ refused 10) × Unissued area fresh file)
+    ⊎ (((r ≡ refused 11) × Short area fresh file) ⊎ ((count : ℕ) × (r ≡ Ok count) × Takes area fresh file count)))

@@ -1,18 +1,22 @@
 -- What comes of taking over a new table, for any bytes: the count of its records or a refusal, and the area afterwards.
-use Rattle.std.specs.Prelude.{ℕ, Bool, true, false, ◌||◌, not, cond, List, eqb, ltb, length}
+use Rattle.std.specs.Prelude.{ℕ, Bool, true, false, ◌||◌, not, cond, List, eqb, ltb, length, Result, Ok, Err}
 use Rattle.octets.specs.Run.{over}
 use Rattle.record.specs.Fields.{edition_of, count_of, issue_of}
 use Rattle.blocks.specs.Blocks.{block_of}
-use Rattle.blocks.specs.declared.Checked.{Checked}
-use Rattle.blocks.specs.declared.Checked.TheVariants.{Sound, Bad}
 use Rattle.table.specs.Check.{check_table}
 use Rattle.taking.specs.Found.{greater_than_all}
-use Rattle.taking.specs.declared.Taken.{Taken}
-use Rattle.taking.specs.declared.Taken.TheVariants.{Took, Refused}
+use Rattle.taking.specs.declared.Refusal.{Refusal}
 
-abbrev pub is_sound : Checked → Bool
-is_sound (Sound _) = true
-is_sound (Bad _) = false
+-- how many records the new table has, or a refusal's number
+abbrev pub Taken : Type 0
+Taken = Result ℕ Refusal
+
+abbrev pub refused : ℕ → Taken
+refused number = Err (record { number = number })
+
+abbrev pub is_sound : Result ℕ ℕ → Bool
+is_sound (Ok _) = true
+is_sound (Err _) = false
 
 -- "9, new table unsound or edition 1"; its length stays exact
 unfoldable pub unfit : List ℕ → ℕ → Bool
@@ -35,11 +39,11 @@ came r area = record { taken = r; area = area }
 
 -- "nothing written"
 abbrev pub refusing : List ℕ → ℕ → AfterTake
-refusing area number = came (Refused number) area
+refusing area number = came (refused number) area
 
 -- the new table over the front of the area, and everything past it as it was
 abbrev pub taking : List ℕ → List ℕ → AfterTake
-taking area fresh = came (Took (count_of (block_of fresh 0))) (over fresh area)
+taking area fresh = came (Ok (count_of (block_of fresh 0))) (over fresh area)
 
 -- "in this order"
 unfoldable pub take_over : List ℕ → List ℕ → ℕ → AfterTake

@@ -1,9 +1,7 @@
 -- What a cut leaves (Cut), said of every set of the new table's blocks, since a disk may write them in another order than it was told.
-use Rattle.std.specs.Prelude.{ℕ, ◌<◌, ◌≤◌, min, Bool, true, false, List, ◌⊎◌, ◌≡◌}
+use Rattle.std.specs.Prelude.{ℕ, ◌<◌, ◌≤◌, min, Bool, true, false, List, ◌⊎◌, ◌≡◌, Result, Ok, Err}
 use Rattle.record.specs.Fields.{count_of}
 use Rattle.blocks.specs.Blocks.{block_of}
-use Rattle.blocks.specs.declared.Checked.{Checked}
-use Rattle.blocks.specs.declared.Checked.TheVariants.{Sound, Bad}
 use Rattle.table.specs.Area.{table_in, check_area}
 use Rattle.taking.specs.Written.{torn_after}
 
@@ -31,17 +29,17 @@ pub record FirstWithin (area : List ℕ) (chosen : ℕ → Bool) (count k : ℕ)
   pub before : (j : ℕ) → j < k → chosen j ≡ false
 
 -- the lower of block k and of the bad block that was answered, if any
-abbrev pub lower_block : ℕ → Checked → ℕ
-lower_block k (Sound n) = k
-lower_block k (Bad j) = min j k
+abbrev pub lower_block : ℕ → Result ℕ ℕ → ℕ
+lower_block k (Ok n) = k
+lower_block k (Err j) = min j k
 
-abbrev pub lower_bad : ℕ → Checked → Checked
-lower_bad k c = Bad (lower_block k c)
+abbrev pub lower_bad : ℕ → Result ℕ ℕ → Result ℕ ℕ
+lower_bad k c = Err (lower_block k c)
 
 -- the four ways, one of which every choice takes, and how the area then reads
 abbrev pub Torn : List ℕ → List ℕ → ℕ → ℕ → (ℕ → Bool) → Type 0
 Torn area fresh file count chosen =
     (AllChosen chosen count × (table_in (torn_after area fresh chosen) ≡ fresh))
-    ⊎ (((k : ℕ) × FirstMissing chosen count k × (check_area (torn_after area fresh chosen) file ≡ Bad k))
+    ⊎ (((k : ℕ) × FirstMissing chosen count k × (check_area (torn_after area fresh chosen) file ≡ Err k))
     ⊎ ((NoneWithin area chosen count × (table_in (torn_after area fresh chosen) ≡ table_in area))
     ⊎ ((k : ℕ) × FirstWithin area chosen count k × (check_area (torn_after area fresh chosen) file ≡ lower_bad k (check_area area file)))))

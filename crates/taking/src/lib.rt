@@ -2,13 +2,12 @@
 // Taking over a new table: it is written over the working area, block by block.
 ghost use Rattle.std.specs.Prelude.{◌≡◌, ◌+◌, ◌*◌, ◌/◌, ◌≤◌, length};
 ghost use Rattle.octets.specs.Run.{over};
-ghost use Rattle.table.specs.Check.{check_table};
 ghost use Rattle.taking.specs.Found.{greater_at, greater_than_all};
 ghost use Rattle.taking.specs.TakeOver.{unfit, came, take_over};
 ghost use Rattle.taking.specs.Written.{Begun, with_block};
 
-use blocks::{BLOCK, Checked, block};
-use octets::{number, run};
+use blocks::{BLOCK, block};
+use octets::number;
 use record::header::Header;
 use record::subscriber::Record;
 
@@ -19,11 +18,10 @@ pub const NOT_GREATER: u16 = 10;
 
 pub const TOO_SHORT: u16 = 11;
 
-// How many records the new table has, or a refusal's number.
-#[derive(Clone, Copy)]
-pub enum Taken {
-    Took(u32),
-    Refused(u16),
+// A refusal's number.
+#[derive(Clone, Copy, PartialEq, Eq)]
+pub struct Refusal {
+    pub number: u16,
 }
 
 // Whether an issue number is greater than the one found in block k, if one is found there.
@@ -47,32 +45,22 @@ fn whole_blocks(area: &[u8]) -> usize
 fn greater_than_all(area: &[u8], issue: u32) -> bool
     ensures { result ≡ greater_than_all area.now issue }
 {
-    let blocks = whole_blocks(area);
-    let mut k = 0;
-    let mut greater = true;
-    while k < blocks {
-        greater = greater & greater_at(area, issue, k);
-        k += 1;
+    for k in 0..whole_blocks(area) {
+        if !greater_at(area, issue, k) {
+            return false;
+        }
     }
-    greater
+    true
 }
 
-// Whether a new table that was checked is unsound or of edition 1.
-fn unfit_checked(fresh: &[u8], file: usize, c: Checked) -> bool
-    requires { c ≡ check_table fresh.now file }
-    ensures { result ≡ unfit fresh.now file }
-{
-    match c {
-        Checked::Sound(_) => Header::read(block(fresh, 0)).edition == Header::FIRST_EDITION,
-        Checked::Bad(_) => true,
-    }
-}
-
+// Whether a new table is unsound or of edition 1.
 fn unfit(fresh: &[u8], file: usize) -> bool
     ensures { result ≡ unfit fresh.now file }
 {
-    let c = table::check(fresh, file);
-    unfit_checked(fresh, file, c)
+    match table::check(fresh, file) {
+        Ok(_) => Header::read(block(fresh, 0)).edition == Header::FIRST_EDITION,
+        Err(_) => true,
+    }
 }
 
 // Writes block k of the new table in its place, behind the blocks before it: "block by block from block 0".
@@ -80,9 +68,8 @@ fn write_block(area: &mut [u8], fresh: &[u8], k: usize)
     requires { (512 * k + 512 ≤ length area.old) × (512 * k + 512 ≤ length fresh.now) × Begun area.old fresh.now k }
     ensures { area.new ≡ with_block area.old fresh.now k }
 {
-    let b = block(fresh, k);
     let at = BLOCK * k;
-    run::copy(&mut area[at..at + BLOCK], b);
+    area[at..at + BLOCK].copy_from_slice(block(fresh, k));
 }
 
 // Writes every block in turn, one call each. The contract says what the area is at the end; that after k turns the first k blocks are the new table's and all
@@ -91,27 +78,27 @@ fn write_all(area: &mut [u8], fresh: &[u8], blocks: usize)
     requires { (length fresh.now ≡ 512 * blocks) × (length fresh.now ≤ length area.old) }
     ensures { area.new ≡ over fresh.now area.old }
 {
-    let mut k = 0;
-    while k < blocks {
+    for k in 0..blocks {
         write_block(area, fresh, k);
-        k += 1;
     }
 }
 
-// The new table over the area, beside a profile file of such a length.
-pub fn take(area: &mut [u8], fresh: &[u8], file: usize) -> Taken
+// The new table over the area, beside a profile file of such a length. Answers how many records it has.
+pub fn take(area: &mut [u8], fresh: &[u8], file: usize) -> Result<u32, Refusal>
     ensures { came result area.new ≡ take_over area.old fresh.now file }
 {
     if unfit(fresh, file) {
-        return Taken::Refused(UNFIT);
+        return Err(Refusal { number: UNFIT });
     }
     let h = Header::read(block(fresh, 0));
     if !greater_than_all(area, h.issue) {
-        return Taken::Refused(NOT_GREATER);
+        return Err(Refusal {
+            number: NOT_GREATER,
+        });
     }
     if area.len() < fresh.len() {
-        return Taken::Refused(TOO_SHORT);
+        return Err(Refusal { number: TOO_SHORT });
     }
     write_all(area, fresh, h.count as usize + 1);
-    Taken::Took(h.count)
+    Ok(h.count)
 }

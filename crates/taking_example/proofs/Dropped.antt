@@ -1,8 +1,8 @@
 -- What each condition keeps out: without it a cut leaves an area that is sound and neither table, or another block is blamed, or the new table does not read.
 -- One keeps no cut out: that the new table is not of edition 1.
+use Rattle.std.specs.Prelude.{Ok, Err}
 use Rattle.octets.specs.Standard.{ℕ, true, ◌≡◌, refl, List, [], ◌∷◌, ◌++◌, arith, eqb, take, drop, length, get_or, set, replicate}
 use Rattle.blocks.specs.Sealed.{sealed}
-use Rattle.blocks.specs.declared.Checked.TheVariants.{Sound, Bad}
 use Rattle.table.specs.Area.{table_in, check_area}
 use Rattle.table.specs.Check.{check_table}
 use Rattle.taking.specs.TakeOver.{not_greater, refusing, take_over}
@@ -13,7 +13,7 @@ use Rattle.taking_example.proofs.Worked.{by_ten, one_fit}
 -- An area that is sound, and reads neither as the old table nor as the new one: a byte of its table is not theirs.
 record Mixture (x old new : List ℕ) : Type 0 where
   count : ℕ
-  sound : check_area x 0 ≡ Sound count
+  sound : check_area x 0 ≡ Ok count
   not_old : table_in x ≡ table_in old → ⊥
   not_new : table_in x ≡ new → ⊥
 
@@ -72,7 +72,7 @@ unfolding opened keeping head_only
 head_refused = by_ten head_only (one 6) one_fit refl
 
 -- 11, an area too short: block 0 is blamed after one block, and not block 1.
-short_blamed : check_area (cut_after (none 2 5) (one 6) 1) 0 ≡ Bad 0
+short_blamed : check_area (cut_after (none 2 5) (one 6) 1) 0 ≡ Err 0
 unfolding opened
 short_blamed = refl
 
@@ -80,7 +80,7 @@ short_blamed = refl
 unsound : List ℕ
 unsound = header 2 6 2 ++ (line 2 7 1 a ++ line 2 6 2 b)
 
-unsound_all : check_area (cut_after roomy unsound 3) 0 ≡ Bad 1
+unsound_all : check_area (cut_after roomy unsound 3) 0 ≡ Err 1
 unfolding opened unsound
 unsound_all = refl
 
@@ -100,7 +100,7 @@ longer_mixed =
 
 -- 9, edition 1: this keeps no cut out. A sound table of edition 1 has issue 0, so 10 refuses it wherever a kind 1 or 2 block stands, and where none does no old
 -- block completes a table.
-first_sound_lem : check_table first 0 ≡ Sound 1
+first_sound_lem : check_table first 0 ≡ Ok 1
 unfolding opened
 first_sound_lem = refl
 
@@ -108,7 +108,7 @@ first_refused : not_greater roomy first ≡ true
 unfolding opened
 first_refused = refl
 
-first_over_zeros : check_area (cut_after (replicate 1024 0) first 1) 0 ≡ Bad 1
+first_over_zeros : check_area (cut_after (replicate 1024 0) first 1) 0 ≡ Err 1
 unfolding opened
 first_over_zeros = refl
 
@@ -152,10 +152,10 @@ half_mixed =
 profiled : List ℕ
 profiled = header 2 6 1 ++ sealed (set (line 2 6 1 a) 405 4)
 
-profile_whole : check_table profiled 4 ≡ Sound 1
+profile_whole : check_table profiled 4 ≡ Ok 1
 unfolding opened profiled
 profile_whole = refl
 
-profile_cut : check_area (cut_after roomy profiled 2) 3 ≡ Bad 1
+profile_cut : check_area (cut_after roomy profiled 2) 3 ≡ Err 1
 unfolding opened profiled
 profile_cut = refl

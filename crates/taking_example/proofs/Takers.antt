@@ -1,11 +1,11 @@
 -- Wrong takers: each is a function here, and at an input that is computed its outcome does not meet the promise.
+use Rattle.std.specs.Prelude.{Ok, Err}
 use Rattle.octets.specs.Standard.{ℕ, ◌+◌, ◌/◌, ◌<◌, Bool, true, false, ◌||◌, not, cond, true≢false, ◌≡◌, refl, sym, ◌∙◌, ap, ◌≢◌, inl, List, ◌++◌, arith, eqb}
 use Rattle.octets.specs.Standard.{leb, ltb, length, get_or}
 use Rattle.octets.specs.All.{all_below}
 use Rattle.octets.specs.Run.{over}
 use Rattle.record.specs.Fields.{count_of, issue_of}
 use Rattle.blocks.specs.Blocks.{block_of}
-use Rattle.blocks.specs.declared.Checked.TheVariants.{Sound, Bad}
 use Rattle.table.specs.Area.{table_in, check_area}
 use Rattle.table.proofs.Areas.{in_first}
 use Rattle.table.proofs.Heads.{header_kind}
@@ -14,8 +14,7 @@ use Rattle.taking.specs.Ended.{Found, Takes}
 use Rattle.taking.specs.Found.{holds_issue, greater_at}
 use Rattle.taking.specs.TakeOver.{unfit, not_greater, too_short, AfterTake, came, refusing, taking, take_over}
 use Rattle.taking.specs.Written.{with_block, cut_after}
-use Rattle.taking.specs.declared.Taken.{Taken}
-use Rattle.taking.specs.declared.Taken.TheVariants.{Took, Refused}
+use Rattle.taking.specs.TakeOver.{Taken, refused}
 use Rattle.taking_example.proofs.Sample.{none, one, three, rubbish, roomy, opened}
 use Rattle.taking_example.proofs.Worked.{one_fit, none_fit, equal, lower, past_count, past_count_greater, ten_next, answer, three_taken}
 use Rattle.taking.proofs.Taking as page
@@ -29,8 +28,8 @@ Meets f area fresh file = f area fresh file ≡ take_over area fresh file
 
 -- a refusal's number, 0 for a success
 number : Taken → ℕ
-number (Took n) = 0
-number (Refused n) = n
+number (Ok n) = 0
+number (Err r) = r.number
 
 fails : (f : Taker) (area fresh : List ℕ) (file : ℕ) {o p : AfterTake} → f area fresh file ≡ o → take_over area fresh file ≡ p
     → (number o.taken ≡ number p.taken → ⊥) → Meets f area fresh file → ⊥
@@ -100,7 +99,7 @@ unfolding number
 hasty_fails = fails hasty (none 2 6) (one 6) 0 hasty_refuses ten_next (omega arith)
 
 -- 4. one that writes under a refusal, whichever it is, whatever is lent and whatever it writes
-writing_fails : (f : Taker) (area fresh : List ℕ) (file n : ℕ) → (f area fresh file).taken ≡ Refused n → (f area fresh file).area ≢ area
+writing_fails : (f : Taker) (area fresh : List ℕ) (file n : ℕ) → (f area fresh file).taken ≡ refused n → (f area fresh file).area ≢ area
     → Meets f area fresh file → ⊥
 writing_fails f area fresh file n e h m =
     h (ap (λ (o : AfterTake). o.area) m ∙ page.leaves area fresh file n (sym (ap (λ (o : AfterTake). o.taken) m) ∙ e))
@@ -108,13 +107,13 @@ writing_fails f area fresh file n e h m =
 -- such a one: it writes the new header, then looks at the area as it came, and writes the rest if it takes the table. What it says is right, and where it takes
 -- the table it leaves what it should.
 head_left : Taken → List ℕ → List ℕ → List ℕ
-head_left (Took n) area fresh = over fresh (with_block area fresh 0)
-head_left (Refused n) area fresh = with_block area fresh 0
+head_left (Ok n) area fresh = over fresh (with_block area fresh 0)
+head_left (Err r) area fresh = with_block area fresh 0
 
 headed : Taker
 headed area fresh file = came (take_over area fresh file).taken (head_left (take_over area fresh file).taken area fresh)
 
-head_written : head_left (Refused 10) (none 2 7) (none 2 6) ≡ none 2 6
+head_written : head_left (refused 10) (none 2 7) (none 2 6) ≡ none 2 6
 unfolding head_left opened
 head_written = refl
 
@@ -128,22 +127,22 @@ headed_fails =
     writing_fails headed (none 2 7) (none 2 6) 0 10 (answer lower)
     (λ e. six_seven (sym head_written ∙ sym (ap (λ (r : Taken). head_left r (none 2 7) (none 2 6)) (answer lower)) ∙ e))
 
-headed_left : head_left (Took 0) (none 2 5 ++ rubbish 2 5) (none 2 6) ≡ none 2 6 ++ rubbish 2 5
+headed_left : head_left (Ok 0) (none 2 5 ++ rubbish 2 5) (none 2 6) ≡ none 2 6 ++ rubbish 2 5
 unfolding head_left opened
 headed_left = refl
 
 headed_meets : Meets headed (none 2 5 ++ rubbish 2 5) (none 2 6) 0
 unfolding headed
 headed_meets =
-    ap (λ (r : Taken). came r (head_left r (none 2 5 ++ rubbish 2 5) (none 2 6))) (answer past_count_greater) ∙ ap (came (Took 0)) headed_left
+    ap (λ (r : Taken). came r (head_left r (none 2 5 ++ rubbish 2 5) (none 2 6))) (answer past_count_greater) ∙ ap (came (Ok 0)) headed_left
     ∙ sym past_count_greater
 
 -- 5. one that refuses where the new table is taken, by whatever number; such a one refuses everything
 is_took : Taken → Bool
-is_took (Took n) = true
-is_took (Refused n) = false
+is_took (Ok n) = true
+is_took (Err r) = false
 
-refusing_fails : (f : Taker) (area fresh : List ℕ) (file count n : ℕ) → (take_over area fresh file).taken ≡ Took count → (f area fresh file).taken ≡ Refused n
+refusing_fails : (f : Taker) (area fresh : List ℕ) (file count n : ℕ) → (take_over area fresh file).taken ≡ Ok count → (f area fresh file).taken ≡ refused n
     → Meets f area fresh file → ⊥
 unfolding is_took
 refusing_fails f area fresh file count n e g m = true≢false (ap is_took (sym e ∙ sym (ap (λ (o : AfterTake). o.taken) m) ∙ g))
@@ -153,16 +152,16 @@ shut_fails n = refusing_fails (λ (area fresh : List ℕ) (file : ℕ). refusing
 
 -- 6. one that invents the count of records: any other than the new table's
 counted : Taken → ℕ
-counted (Took n) = n
-counted (Refused n) = 0
+counted (Ok n) = n
+counted (Err r) = 0
 
-counting_fails : (f : Taker) (area fresh : List ℕ) (file count n : ℕ) → (take_over area fresh file).taken ≡ Took count → (f area fresh file).taken ≡ Took n
+counting_fails : (f : Taker) (area fresh : List ℕ) (file count n : ℕ) → (take_over area fresh file).taken ≡ Ok count → (f area fresh file).taken ≡ Ok n
     → n ≢ count → Meets f area fresh file → ⊥
 unfolding counted
 counting_fails f area fresh file count n e g h m = h (ap counted (sym g ∙ ap (λ (o : AfterTake). o.taken) m ∙ e))
 
 -- 7. one that says that it took the new table, and wrote nothing: then the old issue would be the new one
-idle_fails : (f : Taker) (area fresh : List ℕ) (file count : ℕ) → (take_over area fresh file).taken ≡ Took count → (f area fresh file).area ≡ area
+idle_fails : (f : Taker) (area fresh : List ℕ) (file count : ℕ) → (take_over area fresh file).taken ≡ Ok count → (f area fresh file).area ≡ area
     → Meets f area fresh file → ⊥
 idle_fails f area fresh file count e g m = omega (arith, takes.greater (issue_of (block_of fresh 0)) found)
   where
@@ -185,14 +184,14 @@ idle_fails f area fresh file count e g m = omega (arith, takes.greater (issue_of
         }
 
 -- 8. one that writes all blocks but the last: what it leaves is refused
-lastless_fails : (f : Taker) (area fresh : List ℕ) (file count : ℕ) → (take_over area fresh file).taken ≡ Took count → 0 < count
+lastless_fails : (f : Taker) (area fresh : List ℕ) (file count : ℕ) → (take_over area fresh file).taken ≡ Ok count → 0 < count
     → (f area fresh file).area ≡ cut_after area fresh count → Meets f area fresh file → ⊥
 lastless_fails f area fresh file count e some g m =
     sound_bad count count
     (sym (page.reads area fresh file count e) ∙ ap (λ (s : List ℕ). check_area s file) (sym (ap (λ (o : AfterTake). o.area) m) ∙ g)
     ∙ page.cut_between area fresh file count e count some (omega arith))
   where
-    sound_bad : (i j : ℕ) → Sound i ≡ Bad j → ⊥
+    sound_bad : (i j : ℕ) → Ok i ≡ Err j → ⊥
     sound_bad i j q = let z : ◌≡◌ {A = ℕ} 0 1 = cc in omega arith
 
 -- 9. one that asks blocks of kind 2 only for their issue

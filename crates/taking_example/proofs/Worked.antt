@@ -1,5 +1,6 @@
 -- Take-overs computed by the definitions: each refusal at its edge, the order of the three, what a success leaves, cuts and torn writes; and each theorem of
 -- the page at them.
+use Rattle.std.specs.Prelude.{Ok, Err}
 use Rattle.octets.specs.Standard.{ℕ, ◌/◌, ◌<◌, ◌≤◌, Bool, true, false, ◌||◌, List, [], ◌++◌, ◌≡◌, refl, sym, ap, ◌∙◌, eqb, ltb, lit<, lit≤, take}
 use Rattle.octets.specs.Standard.{drop, length, replicate, arith, lt-ltb, ne_eqb, eqb-false, ◌≢◌, inl}
 use Rattle.octets.specs.Run.{over}
@@ -7,7 +8,6 @@ use Rattle.octets.proofs.Numbers.{Bytes, all_bytes, are_bytes}
 use Rattle.record.specs.Fields.{edition_of, count_of, issue_of}
 use Rattle.blocks.specs.Blocks.{block_of}
 use Rattle.blocks.specs.Changed.{changed_in}
-use Rattle.blocks.specs.declared.Checked.TheVariants.{Sound, Bad}
 use Rattle.table.specs.Area.{size_in, table_in, check_area}
 use Rattle.table.specs.Check.{check_table}
 use Rattle.taking.specs.Cut.{Cut}
@@ -15,7 +15,7 @@ use Rattle.taking.specs.Ended.{Fit, Found, Unfit, Unissued, Short, Takes, Ended}
 use Rattle.taking.specs.TakeOver.{unfit, not_greater, too_short, AfterTake, came, refusing, taking, take_over}
 use Rattle.taking.specs.Torn.{lower_bad, Torn}
 use Rattle.taking.specs.Written.{with_block, cut_after, torn_after, zeroed_after, zeroed_where}
-use Rattle.taking.specs.declared.Taken.TheVariants.{Took, Refused}
+use Rattle.taking.specs.TakeOver.{Taken, refused}
 use Rattle.taking_example.proofs.Sample.{header, line, a, b, none, one, two, three, first, rubbish, behind, roomy, stuck, opened}
 use Rattle.taking.proofs.Taking as page
 
@@ -40,19 +40,19 @@ module _ (area fresh : List ℕ) where
 
 -- Each table is checked once.
 module _ (fresh : List ℕ) (n : ℕ) where
-  pub fits : check_table fresh 0 ≡ Sound n → eqb (edition_of (block_of fresh 0)) 1 ≡ false → unfit fresh 0 ≡ false
+  pub fits : check_table fresh 0 ≡ Ok n → eqb (edition_of (block_of fresh 0)) 1 ≡ false → unfit fresh 0 ≡ false
   unfolding unfit
   fits e f = rw (e, f)
 
-pub old_sound : check_table (two 5) 0 ≡ Sound 2
+pub old_sound : check_table (two 5) 0 ≡ Ok 2
 unfolding opened
 old_sound = refl
 
-pub three_sound : check_table (three 6) 0 ≡ Sound 3
+pub three_sound : check_table (three 6) 0 ≡ Ok 3
 unfolding opened
 three_sound = refl
 
-one_sound : check_table (one 6) 0 ≡ Sound 1
+one_sound : check_table (one 6) 0 ≡ Ok 1
 unfolding opened
 one_sound = refl
 
@@ -81,33 +81,33 @@ pub roomy_table : table_in roomy ≡ two 5
 unfolding opened
 roomy_table = refl
 
-pub roomy_reads : check_area roomy 0 ≡ Sound 2
+pub roomy_reads : check_area roomy 0 ≡ Ok 2
 unfolding check_area
 roomy_reads = ap (λ (t : List ℕ). check_table t 0) roomy_table ∙ old_sound
 
-roomy_exact : check_table roomy 0 ≡ Bad 0
+roomy_exact : check_table roomy 0 ≡ Err 0
 unfolding opened
 roomy_exact = refl
 
-short_reads : check_area (take 1023 (one 5)) 0 ≡ Bad 0
+short_reads : check_area (take 1023 (one 5)) 0 ≡ Err 0
 unfolding opened
 short_reads = refl
 
-piece_reads : check_area (take 511 (one 5)) 0 ≡ Bad 0
+piece_reads : check_area (take 511 (one 5)) 0 ≡ Err 0
 unfolding opened
 piece_reads = refl
 
 -- Success, the issue greater by one: a block of another kind and a last piece are not looked at. A last piece and stale blocks past the new count stay.
-taken : take_over roomy (three 6) 0 ≡ came (Took 3) (three 6 ++ take 511 (rubbish 2 4294967295))
+taken : take_over roomy (three 6) 0 ≡ came (Ok 3) (three 6 ++ take 511 (rubbish 2 4294967295))
 unfolding opened
 taken = by_none roomy (three 6) three_fit refl refl
 
-taken_shorter : take_over roomy (one 6) 0 ≡ came (Took 1) (one 6 ++ (line 2 5 2 b ++ behind))
+taken_shorter : take_over roomy (one 6) 0 ≡ came (Ok 1) (one 6 ++ (line 2 5 2 b ++ behind))
 unfolding opened
 taken_shorter = by_none roomy (one 6) one_fit refl refl
 
 -- No issue is found in an area of zeros, which takes an issue number of 0 too; in a table of edition 1 an issue of 0 is found.
-zeros_take : take_over (replicate 512 0) (none 2 0) 0 ≡ came (Took 0) (none 2 0)
+zeros_take : take_over (replicate 512 0) (none 2 0) 0 ≡ came (Ok 0) (none 2 0)
 unfolding opened
 zeros_take = by_none (replicate 512 0) (none 2 0) zero_fit refl refl
 
@@ -146,7 +146,7 @@ pub past_count : take_over (none 2 5 ++ rubbish 2 6) (none 2 6) 0 ≡ refusing (
 unfolding opened
 past_count = by_ten (none 2 5 ++ rubbish 2 6) (none 2 6) none_fit refl
 
-pub past_count_greater : take_over (none 2 5 ++ rubbish 2 5) (none 2 6) 0 ≡ came (Took 0) (none 2 6 ++ rubbish 2 5)
+pub past_count_greater : take_over (none 2 5 ++ rubbish 2 5) (none 2 6) 0 ≡ came (Ok 0) (none 2 6 ++ rubbish 2 5)
 unfolding opened
 past_count_greater = by_none (none 2 5 ++ rubbish 2 5) (none 2 6) none_fit refl refl
 
@@ -158,7 +158,7 @@ freed_reads : table_in (zeroed_where stuck (eqb 1)) ≡ none 2 5
 unfolding opened
 freed_reads = refl
 
-freed : take_over (zeroed_where stuck (eqb 1)) (none 2 6) 0 ≡ came (Took 0) (none 2 6 ++ replicate 512 0)
+freed : take_over (zeroed_where stuck (eqb 1)) (none 2 6) 0 ≡ came (Ok 0) (none 2 6 ++ replicate 512 0)
 unfolding opened
 freed = by_none (zeroed_where stuck (eqb 1)) (none 2 6) none_fit refl refl
 
@@ -181,19 +181,19 @@ unfolding opened
 ten_next = by_ten (none 2 6) (one 6) one_fit refl
 
 -- A cut after none of the four blocks, after one, in the middle, after the last but one, and after all: the old table, the first old block, the new table.
-cut_after_none : check_area (cut_after roomy (three 6) 0) 0 ≡ Sound 2
+cut_after_none : check_area (cut_after roomy (three 6) 0) 0 ≡ Ok 2
 unfolding cut_after
 cut_after_none = roomy_reads
 
-cut_after_one : check_area (cut_after roomy (three 6) 1) 0 ≡ Bad 1
+cut_after_one : check_area (cut_after roomy (three 6) 1) 0 ≡ Err 1
 unfolding opened
 cut_after_one = refl
 
-cut_after_two : check_area (cut_after roomy (three 6) 2) 0 ≡ Bad 2
+cut_after_two : check_area (cut_after roomy (three 6) 2) 0 ≡ Err 2
 unfolding opened
 cut_after_two = refl
 
-cut_after_three : check_area (cut_after roomy (three 6) 3) 0 ≡ Bad 3
+cut_after_three : check_area (cut_after roomy (three 6) 3) 0 ≡ Err 3
 unfolding opened
 cut_after_three = refl
 
@@ -201,24 +201,24 @@ all_table : table_in (cut_after roomy (three 6) 4) ≡ three 6
 unfolding opened
 all_table = refl
 
-cut_after_all : check_area (cut_after roomy (three 6) 4) 0 ≡ Sound 3
+cut_after_all : check_area (cut_after roomy (three 6) 4) 0 ≡ Ok 3
 unfolding check_area
 cut_after_all = ap (λ (t : List ℕ). check_table t 0) all_table ∙ three_sound
 
 -- A new table that is the shorter one, after one of its two blocks; the same over a table of edition 1, which is what the first take-over meets.
-cut_shorter : check_area (cut_after roomy (one 6) 1) 0 ≡ Bad 1
+cut_shorter : check_area (cut_after roomy (one 6) 1) 0 ≡ Err 1
 unfolding opened
 cut_shorter = refl
 
-first_taken : take_over first (one 6) 0 ≡ came (Took 1) (one 6)
+first_taken : take_over first (one 6) 0 ≡ came (Ok 1) (one 6)
 unfolding opened
 first_taken = by_none first (one 6) one_fit refl refl
 
-first_reads : check_area (cut_after first (one 6) 0) 0 ≡ Sound 1
+first_reads : check_area (cut_after first (one 6) 0) 0 ≡ Ok 1
 unfolding opened
 first_reads = refl
 
-first_cut : check_area (cut_after first (one 6) 1) 0 ≡ Bad 1
+first_cut : check_area (cut_after first (one 6) 1) 0 ≡ Err 1
 unfolding opened
 first_cut = refl
 
@@ -230,11 +230,11 @@ first_all = refl
 zero_and_two : ℕ → Bool
 zero_and_two j = eqb 0 j || eqb 2 j
 
-torn_new : check_area (torn_after roomy (three 6) zero_and_two) 0 ≡ Bad 1
+torn_new : check_area (torn_after roomy (three 6) zero_and_two) 0 ≡ Err 1
 unfolding opened zero_and_two
 torn_new = refl
 
-torn_old : check_area (torn_after roomy (three 6) (eqb 1)) 0 ≡ Bad 1
+torn_old : check_area (torn_after roomy (three 6) (eqb 1)) 0 ≡ Err 1
 unfolding opened
 torn_old = refl
 
@@ -246,11 +246,11 @@ torn_unread = refl
 spoilt : ℕ → ℕ → List ℕ
 spoilt first second = header 2 5 2 ++ (line 2 first 1 a ++ (line 2 second 2 b ++ behind))
 
-torn_before : check_area (torn_after (spoilt 4 5) (three 6) (eqb 2)) 0 ≡ Bad 1
+torn_before : check_area (torn_after (spoilt 4 5) (three 6) (eqb 2)) 0 ≡ Err 1
 unfolding opened spoilt
 torn_before = refl
 
-torn_behind : check_area (torn_after (spoilt 5 4) (three 6) (eqb 1)) 0 ≡ Bad 1
+torn_behind : check_area (torn_after (spoilt 5 4) (three 6) (eqb 1)) 0 ≡ Err 1
 unfolding opened spoilt
 torn_behind = refl
 
@@ -258,15 +258,15 @@ torn_behind = refl
 unsound : List ℕ
 unsound = header 2 5 1 ++ line 2 4 1 a
 
-unsound_taken : take_over unsound (one 6) 0 ≡ came (Took 1) (one 6)
+unsound_taken : take_over unsound (one 6) 0 ≡ came (Ok 1) (one 6)
 unfolding opened unsound
 unsound_taken = by_none unsound (one 6) one_fit refl refl
 
-unsound_reads : check_area (cut_after unsound (one 6) 0) 0 ≡ Bad 1
+unsound_reads : check_area (cut_after unsound (one 6) 0) 0 ≡ Err 1
 unfolding opened unsound
 unsound_reads = refl
 
-unsound_cut : check_area (cut_after unsound (one 6) 1) 0 ≡ Bad 1
+unsound_cut : check_area (cut_after unsound (one 6) 1) 0 ≡ Err 1
 unfolding opened unsound
 unsound_cut = refl
 
@@ -279,11 +279,11 @@ again : take_over (cut_after roomy (three 6) 2) (three 6) 0 ≡ refusing (cut_af
 unfolding opened
 again = by_ten (cut_after roomy (three 6) 2) (three 6) three_fit refl
 
-mended : take_over (cut_after roomy (three 6) 2) (none 2 7) 0 ≡ came (Took 0) (none 2 7 ++ (line 2 6 1 a ++ (line 2 5 2 b ++ behind)))
+mended : take_over (cut_after roomy (three 6) 2) (none 2 7) 0 ≡ came (Ok 0) (none 2 7 ++ (line 2 6 1 a ++ (line 2 5 2 b ++ behind)))
 unfolding opened
 mended = by_none (cut_after roomy (three 6) 2) (none 2 7) greater_fit refl refl
 
-zeroed : take_over (zeroed_after (cut_after roomy (three 6) 2) 4) (three 6) 0 ≡ came (Took 3) (three 6 ++ take 511 (rubbish 2 4294967295))
+zeroed : take_over (zeroed_after (cut_after roomy (three 6) 2) 4) (three 6) 0 ≡ came (Ok 3) (three 6 ++ take 511 (rubbish 2 4294967295))
 unfolding opened
 zeroed = by_none (zeroed_after (cut_after roomy (three 6) 2) 4) (three 6) three_fit refl refl
 
@@ -328,7 +328,7 @@ short_length : length (take 1023 (one 5)) ≡ 1023
 unfolding opened
 short_length = refl
 
-met_read_short : check_area (take 1023 (one 5)) 0 ≡ Bad 0
+met_read_short : check_area (take 1023 (one 5)) 0 ≡ Err 0
 met_read_short = page.read_short (take 1023 (one 5)) 0 (omega (arith, short_size, short_length))
 
 met_unfit : Unfit (none 1 0) 0
@@ -364,22 +364,22 @@ met_eleven = page.eleven [] (none 2 6) 0 met_short
 met_leaves : (take_over (none 2 6) (none 2 6) 0).area ≡ none 2 6
 met_leaves = page.leaves (none 2 6) (none 2 6) 0 10 (answer equal)
 
-met_ended : Ended (none 2 6) (none 2 6) 0 (Refused 10)
-met_ended = page.ended (none 2 6) (none 2 6) 0 (Refused 10) (answer equal)
+met_ended : Ended (none 2 6) (none 2 6) 0 (refused 10)
+met_ended = page.ended (none 2 6) (none 2 6) 0 (refused 10) (answer equal)
 
-pub three_taken : (take_over roomy (three 6) 0).taken ≡ Took 3
+pub three_taken : (take_over roomy (three 6) 0).taken ≡ Ok 3
 three_taken = answer taken
 
 met_takes : Takes roomy (three 6) 0 3
 met_takes = page.only_takes roomy (three 6) 0 3 three_taken
 
-met_taken : take_over roomy (three 6) 0 ≡ came (Took 3) (over (three 6) roomy)
+met_taken : take_over roomy (three 6) 0 ≡ came (Ok 3) (over (three 6) roomy)
 met_taken = page.takes roomy (three 6) 0 3 met_takes
 
 met_reads_new : table_in (take_over roomy (three 6) 0).area ≡ three 6
 met_reads_new = page.reads_new roomy (three 6) 0 3 three_taken
 
-met_reads : check_area (take_over roomy (three 6) 0).area 0 ≡ Sound 3
+met_reads : check_area (take_over roomy (three 6) 0).area 0 ≡ Ok 3
 met_reads = page.reads roomy (three 6) 0 3 three_taken
 
 met_past : drop 2048 (take_over roomy (three 6) 0).area ≡ drop 2048 roomy
@@ -400,7 +400,7 @@ met_cut_all = page.cut_all roomy (three 6) 0 3 three_taken
 met_cut : Cut roomy (three 6) 0 3 2
 met_cut = page.cut roomy (three 6) 0 3 three_taken 2 (lit≤ tt)
 
-met_cut_between : check_area (cut_after roomy (three 6) 2) 0 ≡ Bad 2
+met_cut_between : check_area (cut_after roomy (three 6) 2) 0 ≡ Err 2
 met_cut_between = page.cut_between roomy (three 6) 0 3 three_taken 2 (lit< tt) (lit≤ tt)
 
 met_torn : Torn roomy (three 6) 0 3 (eqb 2)
@@ -412,7 +412,7 @@ met_torn_cut = page.torn_cut roomy (three 6) 0 3 three_taken 2 (lit≤ tt)
 met_torn_all : torn_after roomy (three 6) (λ (j : ℕ). true) ≡ (take_over roomy (three 6) 0).area
 met_torn_all = page.torn_all roomy (three 6) 0 3 three_taken (λ (j : ℕ). true) (λ j l. refl)
 
-met_torn_missing : check_area (torn_after roomy (three 6) (λ (j : ℕ). ltb j 1)) 0 ≡ Bad 1
+met_torn_missing : check_area (torn_after roomy (three 6) (λ (j : ℕ). ltb j 1)) 0 ≡ Err 1
 met_torn_missing =
     page.torn_missing roomy (three 6) 0 3 three_taken (λ (j : ℕ). ltb j 1) 1
     (record { from = lit< tt; to = lit≤ tt; here = refl; before = λ j l. lt-ltb j 1 l })
@@ -420,7 +420,7 @@ met_torn_missing =
 met_torn_past : table_in (torn_after roomy (three 6) (λ (j : ℕ). false)) ≡ table_in roomy
 met_torn_past = page.torn_past roomy (three 6) 0 3 three_taken (λ (j : ℕ). false) (λ j l m. refl)
 
-met_torn_checked : check_area (torn_after roomy (three 6) (λ (j : ℕ). false)) 0 ≡ Sound 2
+met_torn_checked : check_area (torn_after roomy (three 6) (λ (j : ℕ). false)) 0 ≡ Ok 2
 met_torn_checked = page.torn_checked roomy (three 6) 0 3 three_taken (λ (j : ℕ). false) (λ j l m. refl) ∙ roomy_reads
 
 -- block 1 alone is written, within the old count, and block 0 is not
@@ -453,17 +453,17 @@ room : 512 ≤ length roomy
 unfolding opened
 room = lit≤ tt
 
-met_mended : take_over (torn_after roomy (three 6) (eqb 2)) (none 2 7) 0 ≡ came (Took 0) (over (none 2 7) (torn_after roomy (three 6) (eqb 2)))
+met_mended : take_over (torn_after roomy (three 6) (eqb 2)) (none 2 7) 0 ≡ came (Ok 0) (over (none 2 7) (torn_after roomy (three 6) (eqb 2)))
 met_mended = page.mended roomy (three 6) 0 3 three_taken (eqb 2) (none 2 7) 0 seven later_issue room
 
-met_zeroing : check_area (zeroed_after roomy 1) 0 ≡ Bad 0
+met_zeroing : check_area (zeroed_after roomy 1) 0 ≡ Err 0
 met_zeroing = page.zeroing roomy 0 1 (lit< tt)
 
 roomy_blocks : 2048 ≤ length roomy
 unfolding opened
 roomy_blocks = lit≤ tt
 
-met_zeroed : take_over (zeroed_after roomy (length roomy / 512)) (three 6) 0 ≡ came (Took 3) (over (three 6) (zeroed_after roomy (length roomy / 512)))
+met_zeroed : take_over (zeroed_after roomy (length roomy / 512)) (three 6) 0 ≡ came (Ok 3) (over (three 6) (zeroed_after roomy (length roomy / 512)))
 met_zeroed = page.zeroed roomy (three 6) 0 3 six roomy_blocks
 
 six_none : Fit (none 2 6) 0 0
@@ -507,8 +507,8 @@ stuck_rest issue f e =
     let q : issue ≡ 5 = sym f.here ∙ ap (λ (k : ℕ). issue_of (block_of stuck k)) z ∙ stuck_issue in
     omega (arith, six_issue)
 
-met_zeroed_where : take_over (zeroed_where stuck (eqb 1)) (none 2 6) 0 ≡ came (Took 0) (over (none 2 6) (zeroed_where stuck (eqb 1)))
+met_zeroed_where : take_over (zeroed_where stuck (eqb 1)) (none 2 6) 0 ≡ came (Ok 0) (over (none 2 6) (zeroed_where stuck (eqb 1)))
 met_zeroed_where = page.zeroed_where_lem stuck (none 2 6) 0 0 (eqb 1) six_none (omega (arith, stuck_length)) stuck_rest
 
-met_unique : (Took 3 ≡ Took 3) × (over (three 6) roomy ≡ over (three 6) roomy)
+met_unique : ◌≡◌ {A = Taken} (Ok 3) (Ok 3) × (over (three 6) roomy ≡ over (three 6) roomy)
 met_unique = page.unique (take_over roomy (three 6) 0) (sym met_taken) (sym met_taken)

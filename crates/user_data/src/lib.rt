@@ -30,16 +30,11 @@ const AUTHENTICATION_PENDING: u8 = 3;
 fn user_state(state: u8, pending: bool) -> u8
     ensures { (result ≡ user_state state pending) × (result ≤ 3) }
 {
-    if state == 1 {
-        return REGISTERED;
-    }
-    if state == 2 {
-        return REGISTERED_UNREG_SERVICES;
-    }
-    if pending {
-        AUTHENTICATION_PENDING
-    } else {
-        NOT_REGISTERED
+    match state {
+        1 => REGISTERED,
+        2 => REGISTERED_UNREG_SERVICES,
+        _ if pending => AUTHENTICATION_PENDING,
+        _ => NOT_REGISTERED,
     }
 }
 
@@ -59,9 +54,10 @@ fn put_name_if(out: &mut [u8], asked: References, name: &[u8]) -> usize
     ensures { (result ≤ length out.old) × Wrote (name_element asked name.now) out.old out.new result }
 {
     if asked.name & (0 < name.len()) {
-        return put_name(out, name);
+        put_name(out, name)
+    } else {
+        0
     }
-    0
 }
 
 // The element of a registration state.
@@ -79,10 +75,7 @@ fn put_state_if(out: &mut [u8], asked: References, n: u8) -> usize
     requires { (n ≤ 3) × (length (state_element asked n) ≤ length out.old) }
     ensures { (result ≤ length out.old) × Wrote (state_element asked n) out.old out.new result }
 {
-    if asked.state {
-        return put_state(out, n);
-    }
-    0
+    if asked.state { put_state(out, n) } else { 0 }
 }
 
 // Both elements, in the schema's order.

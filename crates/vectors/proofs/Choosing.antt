@@ -1,7 +1,7 @@
 -- The first unused vectors: the turns of the scan that chooses them.
 use Rattle.octets.specs.Standard.{ℕ, zero, suc, ◌+◌, ◌-◌, ◌/◌, ◌<◌, ◌≤◌, Bool, true, false, ◌≡◌, refl, sym, ◌∙◌, ap, List, [], ◌∷◌, ◌++◌, append-nil}
 use Rattle.octets.specs.Standard.{append_assoc, arith, add-one, length, get_or, take, drop, set, replicate, length-drop, length-append, length-take-le}
-use Rattle.octets.specs.Standard.{eq-eqb, ne_eqb}
+use Rattle.octets.specs.Standard.{eqb, eq-eqb, ne_eqb}
 use Rattle.octets.specs.Name.{same}
 use Rattle.blocks.specs.Blocks.{block_of}
 use Rattle.vectors.specs.VectorBlock.{vector_of, card_of}
@@ -21,7 +21,7 @@ module _ (b name : List ℕ) where
   unfolding unused_here vector_of
   unused_named e f g = rw (eq-eqb _ _ e, ← f) g
 
-  pub used_not : (get_or b 1 0 ≡ 0 → ⊥) → false ≡ unused_here b name
+  pub used_not : (get_or b 1 0 ≡ 0 → ⊥) → eqb (get_or b 1 0) 0 ≡ unused_here b name
   unfolding unused_here vector_of
   used_not n = rw (ne_eqb _ _ n)
 
@@ -29,10 +29,6 @@ module _ (b name : List ℕ) where
 pub unused_block : (b name v : List ℕ) (k : ℕ) {x : Bool} → b ≡ block_of v k → x ≡ unused_here b name → x ≡ unused_at v name k
 unfolding unused_at
 unused_block b name v k e f = rw (← e) f
-
-pub also_is : (s : Sent) (k : ℕ) → record { blocks = set s.blocks s.count k; count = s.count + 1 } ≡ sent_also s k
-unfolding sent_also
-also_is s k = refl
 
 -- One block more in the array.
 set_packed : (ks : List ℕ) (m k : ℕ) → set (ks ++ replicate (suc m) 0) (length ks) k ≡ (ks ++ (k ∷ [])) ++ replicate m 0

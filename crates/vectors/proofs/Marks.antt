@@ -1,13 +1,13 @@
 -- Vectors marked: a block with its mark, and the file with those that are sent marked, one after the other.
-use Rattle.octets.specs.Standard.{ℕ, suc, ◌+◌, ◌-◌, ◌*◌, ◌/◌, ◌%◌, ◌<◌, ◌≤◌, Bool, true, false, cond, ◌||◌, or-true, or-false, ◌≡◌, refl, sym, ◌∙◌}
+use Rattle.octets.specs.Standard.{ℕ, suc, ◌+◌, ◌*◌, ◌/◌, ◌%◌, ◌<◌, ◌≤◌, Bool, true, false, cond, ◌||◌, or-true, or-false, ◌≡◌, refl, sym, ◌∙◌}
 use Rattle.octets.specs.Standard.{ap, ◌≢◌, List, [], ◌∷◌, ◌++◌, arith, add-one, length, get_or, set, take, length-set, take-suc, get_or-set_same}
-use Rattle.octets.specs.Standard.{get_or-set_other, eqb, eqb-true, eqb-false, eq-eqb, ne_eqb, mid_of, put_mid}
+use Rattle.octets.specs.Standard.{get_or-set_other, get_or-take, length-take-le, take_all, eqb, eqb-true, eqb-false, eq-eqb, ne_eqb, drop, drop-drop}
 use Rattle.blocks.specs.Blocks.{block_of}
 use Rattle.blocks.proofs.Blocks.{block_length}
 use Rattle.blocks.specs.Sealed.{sealed}
 use Rattle.blocks.specs.Changed.{changed_at, changed_in, is_one}
 use Rattle.blocks.proofs.Sealed.{sealed_length, seal_before, seal_alike}
-use Rattle.blocks.proofs.Changed.{Whole, block_put, all_none, all_length, all_block, one_more, one_append}
+use Rattle.blocks.proofs.Changed.{Whole, all_none, all_length, all_block, one_more, one_append}
 use Rattle.vectors.specs.Chosen.{sent_of}
 use Rattle.vectors.specs.Sendable.{Sendable}
 use Rattle.vectors.specs.Marked.{marked_used, spent}
@@ -46,12 +46,10 @@ pub mark_put : (b : List ℕ) {y : List ℕ} → y ≡ sealed (set b 1 1) → y 
 unfolding marked_used
 mark_put b e = e
 
-pub mark_kept : (b : List ℕ) (i n : ℕ) {y : List ℕ} → y ≡ sealed (set b i n) → length y ≡ length b
-mark_kept b i n e = ap length e ∙ sealed_length (set b i n) ∙ length-set b i n
-
-pub mark_lent : (v : List ℕ) (k : ℕ) {y : List ℕ} → y ≡ marked_used (mid_of (512 * k) (512 * k + 512 - 512 * k) v)
-    → put_mid (512 * k) (512 * k + 512 - 512 * k) v y ≡ changed_in v k marked_used
-mark_lent v k e = block_put marked_used v k e
+pub mark_lent : (v : List ℕ) (k : ℕ) {a r x y : List ℕ} → a ≡ take (512 * k) v → r ≡ drop (512 * k) v → x ≡ take 512 r → y ≡ marked_used x
+    → a ++ (y ++ drop 512 r) ≡ changed_in v k marked_used
+unfolding changed_in block_of
+mark_lent v k ea er ex ey = rw (ey, ex, er, ea, drop-drop 512 (512 * k) v)
 
 -- One number more among those sent.
 sent_more : (ks : List ℕ) (k j : ℕ) → is_one (ks ++ (k ∷ [])) j ≡ (is_one ks j || eqb j k)
@@ -85,28 +83,32 @@ module _ (v : List ℕ) (whole : length v % 512 ≡ 0) where
       again false = refl
 
 -- The turns of the loop: the first i of those sent are marked.
-pub record Spending (v x : List ℕ) (blocks : List ℕ) (i : ℕ) : Type 0 where
-  pub is : x ≡ spent v (take i blocks)
+pub record Spending (v x : List ℕ) (ks : List ℕ) (i : ℕ) : Type 0 where
+  pub is : x ≡ spent v (take i ks)
   pub size : length x ≡ length v
 
 module _ (v : List ℕ) (s : Sent) (sendable : Sendable v s) (whole : length v % 512 ≡ 0) where
-  pub spend_all : Spending v v s.blocks 0
+  pub spend_all : Spending v v (sent_of s) 0
   spend_all = record { is = spent_none v whole; size = refl }
 
-  module _ (x : List ℕ) (i : ℕ) (so : Spending v x s.blocks i) where
-    pub spend_room : i < s.count → i < length s.blocks
-    spend_room h = omega (arith, sendable.few, sendable.room)
+  few : length (sent_of s) ≡ s.count
+  few = length-take-le s.count s.blocks (omega (arith, sendable.few, sendable.room))
 
-    pub spend_fits : i < s.count → 512 * get_or s.blocks i 0 + 512 ≤ length x
-    spend_fits h = rw so.size (sendable.within i h)
+  fits : (i : ℕ) → i < length (sent_of s) → 512 * get_or (sent_of s) i 0 + 512 ≤ length v
+  fits i h = let l : i < s.count = omega (arith, few) in rw (get_or-take s.count s.blocks i 0 l) (sendable.within i l)
 
-    pub spend_next : {y : List ℕ} → i < s.count → y ≡ changed_in x (get_or s.blocks i 0) marked_used → Spending v y s.blocks (i + 1)
+  module _ (x : List ℕ) (i : ℕ) (so : Spending v x (sent_of s) i) where
+    pub spend_fits : i < length (sent_of s) → 512 * get_or (sent_of s) i 0 + 512 ≤ length x
+    spend_fits h = rw so.size (fits i h)
+
+    pub spend_next : {y : List ℕ} → i < length (sent_of s) → y ≡ changed_in x (get_or (sent_of s) i 0) marked_used → Spending v y (sent_of s) (i + 1)
     spend_next {y} h e =
-        let k = get_or s.blocks i 0 in
-        let q : y ≡ spent v (take (suc i) s.blocks) =
-        e ∙ ap (λ (z : List ℕ). changed_in z k marked_used) so.is ∙ spent_one v whole (take i s.blocks) k (sendable.within i h)
-        ∙ ap (spent v) (sym (take-suc s.blocks i 0 (spend_room h))) in
-        record { is = rw (add-one i) q; size = ap length q ∙ spent_length v whole (take (suc i) s.blocks) }
+        let ks = sent_of s in
+        let k = get_or ks i 0 in
+        let q : y ≡ spent v (take (suc i) ks) =
+        e ∙ ap (λ (z : List ℕ). changed_in z k marked_used) so.is ∙ spent_one v whole (take i ks) k (fits i h)
+        ∙ ap (spent v) (sym (take-suc ks i 0 h)) in
+        record { is = rw (add-one i) q; size = ap length q ∙ spent_length v whole (take (suc i) ks) }
 
-    pub spend_end : s.count ≤ i → i ≤ s.count → x ≡ spent v (sent_of s)
-    spend_end a b = let q : s.count ≡ i = omega arith in rw q so.is
+    pub spend_end : length (sent_of s) ≤ i → x ≡ spent v (sent_of s)
+    spend_end h = so.is ∙ ap (spent v) (take_all i (sent_of s) h)

@@ -1,6 +1,6 @@
 -- The pieces of the vector file: how many, each by the tests on the way, and the turns of the loop over them.
-use Rattle.octets.specs.Standard.{ℕ, ◌+◌, ◌-◌, ◌*◌, ◌/◌, ◌%◌, ◌<◌, ◌≤◌, Bool, true, false, ◌&&◌, and-true, and-false, ◌≡◌, sym, ◌∙◌, List, [], ◌∷◌}
-use Rattle.octets.specs.Standard.{arith, length, bit_or, leb, eqb, le-leb, lt-leb, lt-ltb, le-ltb, eq-eqb, ne_eqb, ltb-true, leb-true}
+use Rattle.octets.specs.Standard.{ℕ, ◌+◌, ◌-◌, ◌*◌, ◌/◌, ◌%◌, ◌<◌, ◌≤◌, Bool, true, false, ◌&&◌, and-true, and-false, cond, ◌≡◌, refl, sym, ◌∙◌, min, eqb-true, eqb-false, List, [], ◌∷◌}
+use Rattle.octets.specs.Standard.{arith, length, bit_or, leb, eqb, ltb, lt-ltb, le-ltb, ltb-true, leb-true}
 use Rattle.octets.proofs.Chains.{test, chain_says}
 use Rattle.octets.proofs.Runs.{or_zero}
 use Rattle.blocks.specs.Blocks.{block_of, first_bad}
@@ -29,36 +29,41 @@ vector_within b v s l r ev es el good er =
     let e : sound_limits (vector_of b) ≡ true = rw ev at (sym el ∙ good) in
     rw (e, and-true, es, er, ev)
 
-pub vector_past : (b : List ℕ) (v : Vector) (l : Bool) → v ≡ vector_of b → l ≡ sound_limits v → l ≡ false → false ≡ sound_vector b
+pub vector_past : (b : List ℕ) (v : Vector) (l : Bool) → v ≡ vector_of b → l ≡ sound_limits v → l ≡ false → l ≡ sound_vector b
 unfolding sound_vector
-vector_past b v l ev el bad = let e : sound_limits (vector_of b) ≡ false = rw ev at (sym el ∙ bad) in rw (e, and-false)
+vector_past b v l ev el bad = let e : sound_limits (vector_of b) ≡ false = rw ev at (sym el ∙ bad) in bad ∙ rw (e, and-false)
 
 -- The bits that are set where a vector is to be zero.
 pub rest_none : (b : List ℕ) (v : Vector) (c d e : ℕ) → eqb c 0 ≡ zero_between b (4 + v.private) 132 → eqb d 0 ≡ zero_between b (164 + v.xres) 180
     → eqb e 0 ≡ zero_between b 212 508 → eqb (bit_or (bit_or c d) e) 0 ≡ sound_rest b v
 rest_none b v c d e ec ed ee = simp or_zero (rw (ec, ed, ee))
 
-module _ (v : List ℕ) where
-  pub pieces_whole : length v % 512 ≡ 0 → length v / 512 ≡ pieces_of v
-  unfolding pieces_of
-  pieces_whole e = rw (eq-eqb _ _ e) (omega arith)
+-- a piece past the 4,096 is not tested further
+pub piece_past : (k : ℕ) {x : Bool} {A : Type 0} → 4096 ≤ k → x ≡ ltb k 4096 → x ≡ true → A
+piece_past k h e f = let l : ltb k 4096 ≡ true = cc in absurd (omega (arith, ltb-true _ _ l))
 
-  pub pieces_cut : (length v % 512 ≡ 0 → ⊥) → length v / 512 + 1 ≡ pieces_of v
+module _ (v : List ℕ) where
+  pub pieces_are : length v / 512 + min 1 (length v % 512) ≡ pieces_of v
   unfolding pieces_of
-  pieces_cut n = rw (ne_eqb _ _ n)
+  pieces_are = go (eqb (length v % 512) 0) refl
+    where
+      go : (x : Bool) → eqb (length v % 512) 0 ≡ x → length v / 512 + min 1 (length v % 512) ≡ length v / 512 + cond x 0 1
+      go true e = omega (arith, eqb-true (length v % 512) 0 e)
+      go false e = omega (arith, eqb-false (length v % 512) 0 e)
 
   module _ (k : ℕ) where
-    pub piece_far : 4096 ≤ k → false ≡ sound_piece v k
+    pub piece_far : {x : Bool} → 4096 ≤ k → x ≡ false → x ≡ sound_piece v k
     unfolding sound_piece
-    piece_far h = rw (le-ltb _ _ h)
+    piece_far h e = rw (le-ltb _ _ h) e
 
-    pub piece_cut : k < 4096 → length v < 512 * k + 512 → false ≡ sound_piece v k
-    unfolding sound_piece
-    piece_cut h l = rw (lt-ltb _ _ h, lt-leb _ _ l)
+    module _ {x : Bool} (h : k < 4096) (fits : x ≡ leb (512 * k + 512) (length v)) where
+      pub piece_cut : x ≡ false → x ≡ sound_piece v k
+      unfolding sound_piece
+      piece_cut e = rw (lt-ltb _ _ h, ← fits, e)
 
-    pub piece_whole : (b : List ℕ) {x : Bool} → k < 4096 → 512 * k + 512 ≤ length v → b ≡ block_of v k → x ≡ sound_vector b → x ≡ sound_piece v k
-    unfolding sound_piece
-    piece_whole b h l e f = rw (lt-ltb _ _ h, le-leb _ _ l, ← e) f
+      pub piece_whole : (b : List ℕ) {y : Bool} → x ≡ true → b ≡ block_of v k → y ≡ sound_vector b → y ≡ sound_piece v k
+      unfolding sound_piece
+      piece_whole b e f g = rw (lt-ltb _ _ h, ← fits, e, ← f) g
 
     -- a piece that is sound is one of 4,096
     pub piece_near : sound_piece v k ≡ true → k < 4096

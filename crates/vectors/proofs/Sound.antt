@@ -1,9 +1,9 @@
 -- What a sound vector file says, and that a file that says so is sound.
+use Rattle.std.specs.Prelude.{Ok}
 use Rattle.octets.specs.Standard.{ℕ, ◌+◌, ◌*◌, ◌/◌, ◌%◌, ◌<◌, ◌≤◌, Bool, true, false, ◌≡◌, refl, sym, ◌∙◌, List, [], ◌∷◌, arith, length, eqb, leb}
 use Rattle.octets.specs.Standard.{ltb, eqb-true, eq-eqb, leb-true, ltb-true, ltb-false, lt-ltb, le-leb}
 use Rattle.octets.proofs.Chains.{chain_says}
 use Rattle.blocks.specs.Blocks.{block_of}
-use Rattle.blocks.specs.declared.Checked.TheVariants.{Sound}
 use Rattle.blocks.proofs.First.{good_each, good_count, all_good}
 use Rattle.octets.specs.Sum.{sum_words}
 use Rattle.vectors.specs.VectorBlock.{vector_of, sound_limits, sound_rest, sound_vector}
@@ -119,7 +119,7 @@ block_fits v k h = omega arith
 
 -- Whole blocks, at most 4,096, each a sound vector: the file is sound.
 pub vectors_hold : (v : List ℕ) → length v % 512 ≡ 0 → length v / 512 ≤ 4096 → ((k : ℕ) → k < length v / 512 → sound_vector (block_of v k) ≡ true)
-    → check_vectors v ≡ Sound (length v / 512)
+    → check_vectors v ≡ Ok (length v / 512)
 unfolding check_vectors pieces_of sound_piece
 vectors_hold v e f h =
     let n : length v / 512 + 0 ≡ length v / 512 = omega arith in

@@ -1,10 +1,10 @@
 -- Vectors marked used: a sound one is sound still, of the same private identity, and unused no more; and so is a file of them sound.
+use Rattle.std.specs.Prelude.{Ok}
 use Rattle.octets.specs.Standard.{ℕ, ◌+◌, ◌/◌, ◌%◌, ◌<◌, ◌≤◌, Bool, true, false, cond, ◌≡◌, sym, ◌∙◌, ap, ◌≢◌, List, arith, length, get_or, set}
 use Rattle.octets.specs.Standard.{length-set}
 use Rattle.octets.proofs.Parts.{part_alike}
 use Rattle.octets.proofs.Runs.{zero_alike}
 use Rattle.blocks.specs.Blocks.{block_of}
-use Rattle.blocks.specs.declared.Checked.TheVariants.{Sound}
 use Rattle.blocks.proofs.Blocks.{block_length}
 use Rattle.blocks.proofs.Sealed.{sealed_zero}
 use Rattle.vectors.specs.VectorBlock.{vector_of, sound_rest, sound_vector, card_of}
@@ -79,5 +79,5 @@ module _ (v : List ℕ) (s : SoundVectors v) (ks : List ℕ) where
   spent_sound =
       let n : length (spent v ks) ≡ length v = spent_length v (whole_blocks v s) ks in
       vectors_hold (spent v ks) (rw n (whole_blocks v s)) (rw n (few_all v s)) (λ k h. one_sound k (rw n at h))
-      ∙ ap Sound (ap (λ (m : ℕ). m / 512) n ∙ blocks_are v s)
+      ∙ ap Ok (ap (λ (m : ℕ). m / 512) n ∙ blocks_are v s)
       ∙ sym s.checked

@@ -18,6 +18,17 @@ pub struct Sent {
     pub count: usize,
 }
 
+impl Sent {
+    // One block more.
+    fn push(&mut self, k: u32)
+        requires { self.old.count < 16 }
+        ensures { self.new ≡ sent_also self.old k }
+    {
+        self.blocks[self.count] = k;
+        self.count += 1;
+    }
+}
+
 // No block.
 pub fn none() -> Sent
     ensures { result ≡ none_sent }
@@ -29,14 +40,10 @@ pub fn none() -> Sent
 }
 
 // Whether a vector is unused and for this private identity.
-fn unused(b: &[u8], name: &[u8]) -> bool
-    requires { length b.now ≡ 512 }
+fn unused(b: &[u8; blocks::BLOCK], name: &[u8]) -> bool
     ensures { result ≡ unused_here b.now name.now }
 {
-    if b[Vector::USED_AT] == 0 {
-        return name::same(vector::private(b), name);
-    }
-    false
+    b[Vector::USED_AT] == 0 && name::same(vector::private(b), name)
 }
 
 // The same of block k.
@@ -47,38 +54,19 @@ fn unused_at(v: &[u8], k: usize, name: &[u8]) -> bool
     unused(blocks::block(v, k), name)
 }
 
-// One block more.
-fn also(s: Sent, k: u32) -> Sent
-    requires { s.count < 16 }
-    ensures { result ≡ sent_also s k }
-{
-    let at = s.count;
-    let mut blocks = s.blocks;
-    blocks[at] = k;
-    Sent {
-        blocks,
-        count: at + 1,
-    }
-}
-
 // The first unused vectors of a private identity, at most so many. The array is touched only where one is found.
 pub fn first_unused(v: &[u8], name: &[u8], most: usize) -> Sent
     requires { SoundVectors v.now × (most ≤ 16) }
     ensures { result ≡ packed (unused_of v.now name.now most) }
 {
-    let count = v.len() / blocks::BLOCK;
     let mut sent = none();
-    let mut k = 0;
-    while k < count {
+    for k in 0..v.len() / blocks::BLOCK {
         if most <= sent.count {
-            return sent;
+            break;
         }
         if unused_at(v, k, name) {
-            sent = also(sent, k as u32);
-            k += 1;
-            continue;
+            sent.push(k as u32);
         }
-        k += 1;
     }
     sent
 }

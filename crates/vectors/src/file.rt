@@ -14,11 +14,7 @@ const MOST: usize = 4096;
 fn pieces(v: &[u8]) -> usize
     ensures { result ≡ pieces_of v.now }
 {
-    if v.len() % blocks::BLOCK == 0 {
-        v.len() / blocks::BLOCK
-    } else {
-        v.len() / blocks::BLOCK + 1
-    }
+    v.len().div_ceil(blocks::BLOCK)
 }
 
 // Whether piece k is one of 4,096, whole, and a sound vector.
@@ -26,13 +22,9 @@ fn piece_sound(v: &[u8], k: usize, mask: &[u8]) -> bool
     requires { (k ≤ 4096) × Mask mask.now }
     ensures { result ≡ sound_piece v.now k }
 {
-    if MOST <= k {
-        return false;
-    }
-    if v.len() < blocks::BLOCK * k + blocks::BLOCK {
-        return false;
-    }
-    vector::sound(blocks::block(v, k), mask)
+    k < MOST
+        && blocks::BLOCK * k + blocks::BLOCK <= v.len()
+        && vector::sound(blocks::block(v, k), mask)
 }
 
 // The number of blocks, or the first piece that is bad.
@@ -41,13 +33,10 @@ pub fn check(v: &[u8]) -> Checked
 {
     let n = pieces(v);
     let mask = run::mask();
-    let mut k = 0;
-    while k < n {
-        if piece_sound(v, k, &mask) {
-            k += 1;
-        } else {
-            return Checked::Bad(k as u32);
+    for k in 0..n {
+        if !piece_sound(v, k, &mask) {
+            return Err(k as u32);
         }
     }
-    Checked::Sound(n as u32)
+    Ok(n as u32)
 }

@@ -8,8 +8,7 @@ ghost use Rattle.vectors.specs.Marked.{marked_used, spent};
 use crate::choice::Sent;
 use crate::vector::Vector;
 
-fn mark(b: &mut [u8])
-    requires { length b.old ≡ 512 }
+fn mark(b: &mut [u8; blocks::BLOCK])
     ensures { b.new ≡ marked_used b.old }
 {
     b[Vector::USED_AT] = 1;
@@ -21,8 +20,8 @@ fn mark_at(v: &mut [u8], k: usize)
     requires { 512 * k + 512 ≤ length v.old }
     ensures { v.new ≡ changed_in v.old k marked_used }
 {
-    let at = blocks::BLOCK * k;
-    mark(&mut v[at..at + blocks::BLOCK]);
+    let (_, rest) = v.split_at_mut(blocks::BLOCK * k);
+    mark(rest.first_chunk_mut().unwrap());
 }
 
 // Every block that is sent.
@@ -30,11 +29,7 @@ pub fn spend(v: &mut [u8], sent: Sent)
     requires { Sendable v.old sent × (length v.old % 512 ≡ 0) }
     ensures { v.new ≡ spent v.old (sent_of sent) }
 {
-    let blocks = sent.blocks;
-    let n = sent.count;
-    let mut i = 0;
-    while i < n {
-        mark_at(v, blocks[i] as usize);
-        i += 1;
+    for k in &sent.blocks[..sent.count] {
+        mark_at(v, *k as usize);
     }
 }

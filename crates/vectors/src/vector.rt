@@ -3,6 +3,7 @@ ghost use Rattle.std.specs.Prelude.{◌≡◌, ◌+◌, ◌≤◌, length, take,
 ghost use Rattle.octets.specs.Run.{Mask};
 ghost use Rattle.vectors.specs.VectorBlock.{vector_of, sound_limits, sound_rest, sound_vector, card_of, rand_autn_of, xres_of, confidentiality_of, integrity_of};
 
+use blocks::BLOCK;
 use octets::{run, sum};
 
 // The numbers of a vector block: kind, used, and the lengths of XRES and of the private identity. Its name, its challenge and its keys stay in the
@@ -58,8 +59,7 @@ impl Vector {
     pub const MOST_PRIVATE: u8 = 128;
 
     // The numbers of a block.
-    pub fn read(b: &[u8]) -> Vector
-        requires { length b.now ≡ 512 }
+    pub fn read(b: &[u8; BLOCK]) -> Vector
         ensures { result ≡ vector_of b.now }
     {
         Vector {
@@ -69,23 +69,23 @@ impl Vector {
             private: b[Vector::PRIVATE_LENGTH_AT],
         }
     }
-}
 
-// Each number within its limits.
-fn limits(v: Vector) -> bool
-    ensures { result ≡ sound_limits v }
-{
-    (v.kind == Vector::KIND)
-        & (v.used <= Vector::MOST_USED)
-        & (Vector::LEAST_XRES <= v.xres)
-        & (v.xres <= Vector::MOST_XRES)
-        & (Vector::LEAST_PRIVATE <= v.private)
-        & (v.private <= Vector::MOST_PRIVATE)
+    // Each number within its limits.
+    fn limits(self) -> bool
+        ensures { result ≡ sound_limits self }
+    {
+        (self.kind == Vector::KIND)
+            & (self.used <= Vector::MOST_USED)
+            & (Vector::LEAST_XRES <= self.xres)
+            & (self.xres <= Vector::MOST_XRES)
+            & (Vector::LEAST_PRIVATE <= self.private)
+            & (self.private <= Vector::MOST_PRIVATE)
+    }
 }
 
 // "Bytes not named are zero, and so are unused places in a field", as of a record.
-fn rest(b: &[u8], v: Vector, mask: &[u8]) -> bool
-    requires { (length b.now ≡ 512) × (v.private ≤ 128) × (v.xres ≤ 16) × Mask mask.now }
+fn rest(b: &[u8; BLOCK], v: Vector, mask: &[u8]) -> bool
+    requires { (v.private ≤ 128) × (v.xres ≤ 16) × Mask mask.now }
     ensures { result ≡ sound_rest b.now v }
 {
     run::set_past(b, Vector::PRIVATE_AT, 16, v.private as usize, mask)
@@ -95,29 +95,24 @@ fn rest(b: &[u8], v: Vector, mask: &[u8]) -> bool
 }
 
 // Whether a block is a sound vector. Its numbers come first: what is zero goes by them.
-pub fn sound(b: &[u8], mask: &[u8]) -> bool
-    requires { (length b.now ≡ 512) × Mask mask.now }
+pub fn sound(b: &[u8; BLOCK], mask: &[u8]) -> bool
+    requires { Mask mask.now }
     ensures { result ≡ sound_vector b.now }
 {
     let v = Vector::read(b);
-    if limits(v) {
-        (sum::sum_words(b, 128) == 0) & rest(b, v, mask)
-    } else {
-        false
-    }
+    v.limits() && (sum::sum_words(b, 128) == 0) & rest(b, v, mask)
 }
 
 // The n bytes from a place on.
-fn part(b: &[u8], at: usize, n: usize) -> &[u8]
-    requires { (length b.now ≡ 512) × (at + n ≤ 512) }
+fn part(b: &[u8; BLOCK], at: usize, n: usize) -> &[u8]
+    requires { at + n ≤ 512 }
     ensures { (result.now ≡ take n (drop at b.now)) × (length result.now ≡ n) }
 {
     &b[at..at + n]
 }
 
 // The private identity that a vector is for.
-pub fn private(b: &[u8]) -> &[u8]
-    requires { length b.now ≡ 512 }
+pub fn private(b: &[u8; BLOCK]) -> &[u8]
     ensures { (result.now ≡ card_of b.now) × (length result.now ≤ 255) }
 {
     part(
@@ -128,29 +123,26 @@ pub fn private(b: &[u8]) -> &[u8]
 }
 
 // "They are sent as stored": RAND and AUTN, the true length of XRES, the two keys.
-pub fn rand_autn(b: &[u8]) -> &[u8]
-    requires { length b.now ≡ 512 }
+pub fn rand_autn(b: &[u8; BLOCK]) -> &[u8]
     ensures { (result.now ≡ rand_autn_of b.now) × (length result.now ≡ 32) }
 {
     part(b, Vector::RAND_AUTN_AT, Vector::RAND_AUTN)
 }
 
-pub fn xres(b: &[u8]) -> &[u8]
-    requires { (length b.now ≡ 512) × ((vector_of b.now).xres ≤ 16) }
+pub fn xres(b: &[u8; BLOCK]) -> &[u8]
+    requires { (vector_of b.now).xres ≤ 16 }
     ensures { (result.now ≡ xres_of b.now) × (length result.now ≡ (vector_of b.now).xres) }
 {
     part(b, Vector::XRES_AT, octets::byte(b, Vector::XRES_LENGTH_AT))
 }
 
-pub fn confidentiality_key(b: &[u8]) -> &[u8]
-    requires { length b.now ≡ 512 }
+pub fn confidentiality_key(b: &[u8; BLOCK]) -> &[u8]
     ensures { (result.now ≡ confidentiality_of b.now) × (length result.now ≡ 16) }
 {
     part(b, Vector::CONFIDENTIALITY_KEY_AT, Vector::KEY)
 }
 
-pub fn integrity_key(b: &[u8]) -> &[u8]
-    requires { length b.now ≡ 512 }
+pub fn integrity_key(b: &[u8; BLOCK]) -> &[u8]
     ensures { (result.now ≡ integrity_of b.now) × (length result.now ≡ 16) }
 {
     part(b, Vector::INTEGRITY_KEY_AT, Vector::KEY)

@@ -1,10 +1,9 @@
 -- Authentication requests, worked through: what each is answered, and the table and the vector file afterwards.
+use Rattle.std.specs.Prelude.{Result, Ok, Err}
 use Rattle.octets.specs.Standard.{ℕ, zero, suc, ◌+◌, ◌≡◌, refl, ap, ◌∙◌, List, [], ◌∷◌, ◌++◌, map, Bool, true, false, length, take, replicate, set}
 use Rattle.octets.specs.Run.{over}
 use Rattle.blocks.specs.Blocks.{block_of}
 use Rattle.table.specs.Check.{check_table}
-use Rattle.blocks.specs.declared.Checked.{Checked}
-use Rattle.blocks.specs.declared.Checked.TheVariants.{Sound, Bad}
 use Rattle.blocks.specs.Sealed.{sealed}
 use Rattle.vectors.specs.VectorBlock.{vector_of, sound_limits, sound_rest}
 use Rattle.vectors.specs.VectorFile.{sound_piece, check_vectors}
@@ -92,11 +91,11 @@ table = header 1 0 ++ line 0 0 0 (0x2C ∷ 0xFD ∷ 0xFE ∷ 0xFF ∷ [])
 unsent : List ℕ
 unsent = stored 0 (0x42 ∷ 0x99 ∷ 0x83 ∷ 0x7B ∷ [])
 
-table_sound : check_table table 0 ≡ Sound 1
+table_sound : check_table table 0 ≡ Ok 1
 unfolding opened line table
 table_sound = refl
 
-unsent_sound : check_vectors unsent ≡ Sound 1
+unsent_sound : check_vectors unsent ≡ Ok 1
 unfolding opened stored unsent
 unsent_sound = refl
 
@@ -110,8 +109,8 @@ to_the_byte = come (lent mar table [] unsent room (under_cx 3588 0)) roomy table
 record Files : Type 0 where
   table : List ℕ
   vectors : List ℕ
-  records : Checked
-  blocks : Checked
+  records : Result ℕ ℕ
+  blocks : Result ℕ ℕ
   table_is : check_table table 0 ≡ records
   vectors_is : check_vectors vectors ≡ blocks
 
@@ -143,30 +142,30 @@ all_come (r ∷ rows) (e, es) = (comes r e, all_come rows es)
 unfoldable pub mixed : ℕ → ℕ → ℕ → List ℕ
 mixed first second third = vector first 0x71 1 ++ (vector second 0x70 5 ++ vector third 0x70 9)
 
-fresh_sound : check_vectors (vector 0 0x70 1) ≡ Sound 1
+fresh_sound : check_vectors (vector 0 0x70 1) ≡ Ok 1
 unfolding opened
 fresh_sound = refl
 
-used_sound : check_vectors (vector 1 0x70 1) ≡ Sound 1
+used_sound : check_vectors (vector 1 0x70 1) ≡ Ok 1
 unfolding opened
 used_sound = refl
 
-mixed_sound : check_vectors (mixed 0 0 0) ≡ Sound 3
+mixed_sound : check_vectors (mixed 0 0 0) ≡ Ok 3
 unfolding opened mixed
 mixed_sound = refl
 
 -- the one record `a`, registered at `s`, with each of them
-abbrev registered : (v : List ℕ) (blocks : Checked) → check_vectors v ≡ blocks → Files
-registered v blocks e = record { table = one 0 1 s; vectors = v; records = Sound 1; blocks = blocks; table_is = registered_sound; vectors_is = e }
+abbrev registered : (v : List ℕ) (blocks : Result ℕ ℕ) → check_vectors v ≡ blocks → Files
+registered v blocks e = record { table = one 0 1 s; vectors = v; records = Ok 1; blocks = blocks; table_is = registered_sound; vectors_is = e }
 
 abbrev fresh : Files
-fresh = registered (vector 0 0x70 1) (Sound 1) fresh_sound
+fresh = registered (vector 0 0x70 1) (Ok 1) fresh_sound
 
 abbrev exhausted : Files
-exhausted = registered (vector 1 0x70 1) (Sound 1) used_sound
+exhausted = registered (vector 1 0x70 1) (Ok 1) used_sound
 
 abbrev shared : Files
-shared = registered (mixed 0 0 0) (Sound 3) mixed_sound
+shared = registered (mixed 0 0 0) (Ok 3) mixed_sound
 
 -- answered by a result alone, or with a Failed-AVP; refused: nothing is altered
 abbrev denied : Files → List ℕ → List ℕ → List ℕ → Row
@@ -255,13 +254,13 @@ at_most_sent = refl
 neighbours : ℕ → List ℕ → List ℕ
 neighbours bits server = header 2 0 ++ (person 1 0x61 0x70 1 s ++ subscriber 2 0x62 0x71 1 bits server)
 
-neighbours_sound : check_table (neighbours 0 s) 0 ≡ Sound 2
+neighbours_sound : check_table (neighbours 0 s) 0 ≡ Ok 2
 unfolding opened neighbours
 neighbours_sound = refl
 
 abbrev two_cards : Files
 two_cards =
-    record { table = neighbours 0 s; vectors = mixed 0 0 0; records = Sound 2; blocks = Sound 3; table_is = neighbours_sound; vectors_is = mixed_sound }
+    record { table = neighbours 0 s; vectors = mixed 0 0 0; records = Ok 2; blocks = Ok 3; table_is = neighbours_sound; vectors_is = mixed_sound }
 
 other : List ℕ
 other = vendor_bytes 608 (0x41 ∷ 0x4B ∷ 0x41 ∷ 0x76 ∷ 0x31 ∷ [])
@@ -357,26 +356,26 @@ names_stored = refl
 unkind : List ℕ
 unkind = sealed (set (vector 0 0x70 1) 0 0)
 
-unkind_bad : check_vectors unkind ≡ Bad 0
+unkind_bad : check_vectors unkind ≡ Err 0
 unfolding opened unkind
 unkind_bad = refl
 
-cut_bad : check_vectors (vector 0 0x70 1 ++ take 511 unkind) ≡ Bad 1
+cut_bad : check_vectors (vector 0 0x70 1 ++ take 511 unkind) ≡ Err 1
 unfolding opened unkind
 cut_bad = refl
 
-zeros_bad : check_table block 0 ≡ Bad 0
+zeros_bad : check_table block 0 ≡ Err 0
 unfolding opened
 zeros_bad = refl
 
 abbrev spoilt : Files
-spoilt = registered unkind (Bad 0) unkind_bad
+spoilt = registered unkind (Err 0) unkind_bad
 
 abbrev cut : Files
-cut = registered (vector 0 0x70 1 ++ take 511 unkind) (Bad 1) cut_bad
+cut = registered (vector 0 0x70 1 ++ take 511 unkind) (Err 1) cut_bad
 
 abbrev both : Files
-both = record { table = block; vectors = unkind; records = Bad 0; blocks = Bad 0; table_is = zeros_bad; vectors_is = unkind_bad }
+both = record { table = block; vectors = unkind; records = Err 0; blocks = Err 0; table_is = zeros_bad; vectors_is = unkind_bad }
 
 abbrev refusals : List Row
 refusals =
@@ -393,11 +392,11 @@ unfolding opened unkind
 refusals_come = all_come refusals (refl, (refl, (refl, (refl, (refl, tt)))))
 
 -- The check of a vector file: no block; a wrong sum; a block past the 4,096th, whatever it is.
-none_sound : check_vectors [] ≡ Sound 0
+none_sound : check_vectors [] ≡ Ok 0
 unfolding opened
 none_sound = refl
 
-sum_bad : check_vectors (set (vector 0 0x70 1) 511 0) ≡ Bad 0
+sum_bad : check_vectors (set (vector 0 0x70 1) 511 0) ≡ Err 0
 unfolding opened
 sum_bad = refl
 

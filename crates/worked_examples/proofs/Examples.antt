@@ -1,9 +1,8 @@
 -- "Proved of the definitions, all in a single table under a single statement."
+use Rattle.std.specs.Prelude.{Result, Ok, Err}
 use Rattle.octets.specs.Standard.{ℕ, ◌≡◌, refl, List, [], ◌∷◌, ◌++◌, Bool, true, false, length, take, replicate, set, ltb}
 use Rattle.octets.specs.Run.{over}
 use Rattle.octets.specs.Sum.{sum_words}
-use Rattle.blocks.specs.declared.Checked.{Checked}
-use Rattle.blocks.specs.declared.Checked.TheVariants.{Sound, Bad}
 use Rattle.table.specs.Check.{check_table}
 use Rattle.blocks.specs.Sealed.{sealed}
 use Rattle.pen.specs.Bytes.{vendor_head, avp_bytes, number_bytes}
@@ -19,7 +18,7 @@ use Rattle.worked_examples.proofs.Sample.{block, header, answer, assignment, one
 -- the check of a table with its answer, or a block with the sum of its words
 data Case : Type 0 where
   call : List ℕ → List ℕ → ℕ → Call → List ℕ → List ℕ → Case
-  check : List ℕ → Checked → Case
+  check : List ℕ → Result ℕ ℕ → Case
   sum : List ℕ → ℕ → Case
 
 abbrev Right : Case → Type 0
@@ -102,7 +101,7 @@ abbrev cases : List Case
 cases =
     -- the worked LIR; a request of 20 bytes; a buffer of 36,864; count 0 alone
     answering worked alone alone exactly
-    ∷ check alone (Sound 0)
+    ∷ check alone (Ok 0)
     -- a request of 19 bytes, and of 16,388
     ∷ refusing (take 19 worked) alone 36864 2 0
     ∷ refusing (0x01 ∷ 0x00 ∷ 0x40 ∷ 0x04 ∷ replicate 16384 0xC0) alone 36864 2 0
@@ -110,17 +109,17 @@ cases =
     ∷ refusing worked alone 36863 1 0
     -- a block of zeros: bad by its kind, though it sums to zero; and one that is right in all but its kind
     ∷ sum block 0
-    ∷ check block (Bad 0)
+    ∷ check block (Err 0)
     ∷ refusing worked block 36864 5 0
     ∷ sum unkind 0
-    ∷ check unkind (Bad 0)
+    ∷ check unkind (Err 0)
     -- two equal public identities: the later block is blamed
-    ∷ check two (Bad 2)
+    ∷ check two (Err 2)
     ∷ refusing worked two 36864 5 2
     -- SAR type 2 in state 0: X5007
     ∷ answering (assignment 2 s) (one 0 0 []) (one 0 0 []) (answer (experimental 5007) [])
     -- type 1 with another name: X5005
-    ∷ check registered (Sound 1)
+    ∷ check registered (Ok 1)
     ∷ answering other registered registered elsewhere
     -- type 6 with keep 0: state 0, no name, X2004; with keep 1: state 2, the name kept, B2001
     ∷ answering (assignment 6 s) registered (one 0 0 []) (answer (experimental 2004) [])
@@ -132,12 +131,12 @@ cases =
 
 -- What is to be computed of a case: of a call what it comes to, with any buffer, by what the check of its table answers and whether the buffer is small.
 record Called (req table : List ℕ) (room : ℕ) (comes : Call) (after bytes : List ℕ) : Type 0 where
-  answer : Checked
+  answer : Result ℕ ℕ
   checked : check_table table 0 ≡ answer
   small : Bool
   size : ltb room 36864 ≡ small
   computed : (o : List ℕ)
-      → known small answer (Sound 0) (lent req table [] [] o (under_cx 3588 0)) ≡ record { call = comes; table = after; vectors = []; buffer = over bytes o }
+      → known small answer (Ok 0) (lent req table [] [] o (under_cx 3588 0)) ≡ record { call = comes; table = after; vectors = []; buffer = over bytes o }
 
 abbrev Computes : Case → Type 0
 Computes (call req table room comes after bytes) = Called req table room comes after bytes
@@ -159,27 +158,27 @@ all_right [] tt = tt
 all_right (c ∷ cs) (e, es) = (right c e, all_right cs es)
 
 -- the checks
-alone_sound : check_table alone 0 ≡ Sound 0
+alone_sound : check_table alone 0 ≡ Ok 0
 unfolding opened alone
 alone_sound = refl
 
-zeros_bad : check_table block 0 ≡ Bad 0
+zeros_bad : check_table block 0 ≡ Err 0
 unfolding opened
 zeros_bad = refl
 
-unkind_bad : check_table unkind 0 ≡ Bad 0
+unkind_bad : check_table unkind 0 ≡ Err 0
 unfolding opened alone unkind
 unkind_bad = refl
 
-two_bad : check_table two 0 ≡ Bad 2
+two_bad : check_table two 0 ≡ Err 2
 unfolding opened
 two_bad = refl
 
-line_sound : check_table registered 0 ≡ Sound 1
+line_sound : check_table registered 0 ≡ Ok 1
 unfolding opened registered
 line_sound = refl
 
-kept_sound : check_table (one 1 1 s) 0 ≡ Sound 1
+kept_sound : check_table (one 1 1 s) 0 ≡ Ok 1
 unfolding opened
 kept_sound = refl
 
@@ -187,21 +186,21 @@ examples : Holds cases
 unfolding opened worked exactly other registered elsewhere alone unkind
 examples =
     all_right cases (
-      record { answer = Sound 0; checked = alone_sound; small = false; size = refl; computed = λ o. refl },
+      record { answer = Ok 0; checked = alone_sound; small = false; size = refl; computed = λ o. refl },
       (
         alone_sound,
         (
-          record { answer = Sound 0; checked = alone_sound; small = false; size = refl; computed = λ o. refl },
+          record { answer = Ok 0; checked = alone_sound; small = false; size = refl; computed = λ o. refl },
           (
-            record { answer = Sound 0; checked = alone_sound; small = false; size = refl; computed = λ o. refl },
+            record { answer = Ok 0; checked = alone_sound; small = false; size = refl; computed = λ o. refl },
             (
-              record { answer = Sound 0; checked = alone_sound; small = true; size = refl; computed = λ o. refl },
+              record { answer = Ok 0; checked = alone_sound; small = true; size = refl; computed = λ o. refl },
               (
                 refl,
                 (
                   zeros_bad,
                   (
-                    record { answer = Bad 0; checked = zeros_bad; small = false; size = refl; computed = λ o. refl },
+                    record { answer = Err 0; checked = zeros_bad; small = false; size = refl; computed = λ o. refl },
                     (
                       refl,
                       (
@@ -209,20 +208,20 @@ examples =
                         (
                           two_bad,
                           (
-                            record { answer = Bad 2; checked = two_bad; small = false; size = refl; computed = λ o. refl },
+                            record { answer = Err 2; checked = two_bad; small = false; size = refl; computed = λ o. refl },
                             (
-                              record { answer = Sound 1; checked = unregistered_sound; small = false; size = refl; computed = λ o. refl },
+                              record { answer = Ok 1; checked = unregistered_sound; small = false; size = refl; computed = λ o. refl },
                               (
                                 line_sound,
                                 (
-                                  record { answer = Sound 1; checked = line_sound; small = false; size = refl; computed = λ o. refl },
+                                  record { answer = Ok 1; checked = line_sound; small = false; size = refl; computed = λ o. refl },
                                   (
-                                    record { answer = Sound 1; checked = line_sound; small = false; size = refl; computed = λ o. refl },
+                                    record { answer = Ok 1; checked = line_sound; small = false; size = refl; computed = λ o. refl },
                                     (
-                                      record { answer = Sound 1; checked = kept_sound; small = false; size = refl; computed = λ o. refl },
+                                      record { answer = Ok 1; checked = kept_sound; small = false; size = refl; computed = λ o. refl },
                                       (
-                                        record { answer = Sound 1; checked = unregistered_sound; small = false; size = refl; computed = λ o. refl },
-                                        (record { answer = Sound 1; checked = unregistered_sound; small = false; size = refl; computed = λ o. refl }, tt),
+                                        record { answer = Ok 1; checked = unregistered_sound; small = false; size = refl; computed = λ o. refl },
+                                        (record { answer = Ok 1; checked = unregistered_sound; small = false; size = refl; computed = λ o. refl }, tt),
                                       ),
                                     ),
                                   ),

@@ -1,7 +1,7 @@
 -- Supported-Features, by a server that supports bits 0 and 2: how it is read, whether it asks for more, and whether it calls for the own list; and answers.
+use Rattle.std.specs.Prelude.{Ok}
 use Rattle.octets.specs.Standard.{ℕ, ◌≡◌, refl, List, [], ◌∷◌, ◌++◌, map, Bool, true, false, length, replicate, set}
 use Rattle.octets.specs.Run.{over}
-use Rattle.blocks.specs.declared.Checked.TheVariants.{Sound}
 use Rattle.vectors.specs.VectorFile.{check_vectors}
 use Rattle.pen.specs.Bytes.{head_bytes, word_bytes, avp_bytes, vendor_bytes, number_bytes, vendor_number}
 use Rattle.pen.specs.Groups.{experimental, failed}
@@ -193,11 +193,11 @@ features = refl
 calling : List ℕ → Lent
 calling req = lent req (one 0 1 s) [] (vector 0 0x70 1) room (under_cx 3588 5)
 
-vector_sound : check_vectors (vector 0 0x70 1) ≡ Sound 1
+vector_sound : check_vectors (vector 0 0x70 1) ≡ Ok 1
 unfolding opened
 vector_sound = refl
 
-computed : (req : List ℕ) {y : Served} → known false (Sound 1) (Sound 1) (calling req) ≡ y → serve_table (calling req) ≡ y
+computed : (req : List ℕ) {y : Served} → known false (Ok 1) (Ok 1) (calling req) ≡ y → serve_table (calling req) ≡ y
 unfolding calling
 computed req e = come (calling req) roomy registered_sound vector_sound e
 

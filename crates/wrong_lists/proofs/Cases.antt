@@ -1,15 +1,14 @@
 -- Lists that differ from an export in one thing, and what import says of each, computed by the definitions: line 3 for a number with a leading zero, for the
 -- last CR LF missing and for a quote that is not doubled; line 4 for a line too many; line 2 where both records are wrong, and where no name is left above
 -- the first one's.
+use Rattle.std.specs.Prelude.{Ok, Err}
 use Rattle.octets.specs.Standard.{ℕ, ◌+◌, ◌<◌, ◌≤◌, true, ◌≡◌, refl, ap, ◌∙◌, arith, List, [], ◌∷◌, ◌++◌, length, take, drop, replicate}
 use Rattle.octets.specs.Run.{over}
 use Rattle.octets.proofs.Numbers.{Bytes, all_bytes, are_bytes}
 use Rattle.record.specs.Fields.{edition_of}
 use Rattle.blocks.specs.Blocks.{block_of}
-use Rattle.blocks.specs.declared.Checked.TheVariants.{Sound, Bad}
 use Rattle.listing.specs.ListOf.{first_line, first_unlisted}
 use Rattle.listing.specs.Export.{AfterList, came, refusing, writing, exported}
-use Rattle.listing.specs.declared.Listed.TheVariants.{Written}
 use Rattle.importing.specs.Said.{first_wrong}
 use Rattle.importing.specs.Import.{fit_header, imported}
 use Rattle.importing.proofs.Given.{Exportable}
@@ -43,27 +42,27 @@ swapped = first_line ++ (line2 ++ line1)
 unfoldable pub highest : List ℕ
 highest = first_line ++ ((34 ∷ replicate 128 126) ++ (drop 11 line1 ++ line2))
 
-pub leading_wrong : first_wrong leading (header 2 2) 7 ≡ Bad 2
+pub leading_wrong : first_wrong leading (header 2 2) 7 ≡ Err 2
 unfolding leading opened
 leading_wrong = refl
 
-pub unclosed_wrong : first_wrong unclosed (header 2 2) 7 ≡ Bad 2
+pub unclosed_wrong : first_wrong unclosed (header 2 2) 7 ≡ Err 2
 unfolding unclosed opened
 unclosed_wrong = refl
 
-pub single_wrong : first_wrong single (header 2 2) 7 ≡ Bad 2
+pub single_wrong : first_wrong single (header 2 2) 7 ≡ Err 2
 unfolding single opened
 single_wrong = refl
 
-pub longer_wrong : first_wrong longer (header 2 2) 7 ≡ Bad 3
+pub longer_wrong : first_wrong longer (header 2 2) 7 ≡ Err 3
 unfolding longer opened
 longer_wrong = refl
 
-pub swapped_wrong : first_wrong swapped (header 2 2) 6 ≡ Bad 1
+pub swapped_wrong : first_wrong swapped (header 2 2) 6 ≡ Err 1
 unfolding swapped opened
 swapped_wrong = refl
 
-pub highest_wrong : first_wrong highest (header 2 2) 7 ≡ Bad 1
+pub highest_wrong : first_wrong highest (header 2 2) 7 ≡ Err 1
 unfolding highest opened
 highest_wrong = refl
 
@@ -72,12 +71,12 @@ unfolding opened
 fit = refl
 
 -- what import leaves then
-pub refused : (l : List ℕ) (file k : ℕ) (area : List ℕ) → first_wrong l (header 2 2) file ≡ Bad k → imported l (header 2 2) file area ≡ refusing area 14 (k + 1)
+pub refused : (l : List ℕ) (file k : ℕ) (area : List ℕ) → first_wrong l (header 2 2) file ≡ Err k → imported l (header 2 2) file area ≡ refusing area 14 (k + 1)
 unfolding imported
 refused l file k area e = rw (fit, e)
 
 -- The list itself is an export's.
-pub unlisted : first_unlisted table 2 ≡ Sound 2
+pub unlisted : first_unlisted table 2 ≡ Ok 2
 unfolding opened
 unlisted = refl
 
@@ -111,11 +110,11 @@ exportable =
 pub header_octets : Bytes (header 2 2)
 header_octets = are_bytes (header 2 2) header_bytes_lem
 
-list_over : writing list list ≡ came (Written 261) list
+list_over : writing list list ≡ came (Ok 261) list
 unfolding writing over opened
 list_over = refl
 
-pub exported_so : exported table 7 list ≡ came (Written 261) list
+pub exported_so : exported table 7 list ≡ came (Ok 261) list
 exported_so = export_gives (header 2 2) 7 table exportable list ∙ ap (writing list) listed ∙ list_over
 
 pub list_taken : take 261 list ≡ list
@@ -137,14 +136,14 @@ an_export =
 
 -- so import gives its table over the front of any area that holds it, and 15 in a shorter one
 pub accepted : (area : List ℕ) → length table ≤ length area
-    → imported list (header 2 2) 7 area ≡ came (Written (length table)) (table ++ drop (length table) area)
+    → imported list (header 2 2) 7 area ≡ came (Ok (length table)) (table ++ drop (length table) area)
 accepted area h = (accepts_exactly list (header 2 2) 7 area header_octets).given an_export h
 
 pub narrow_area : (area : List ℕ) → length area < length table → imported list (header 2 2) 7 area ≡ refusing area 15 0
 narrow_area area h = (accepts_exactly list (header 2 2) 7 area header_octets).short an_export h
 
 -- No export has any of the others.
-pub no_export : (l : List ℕ) (k : ℕ) → first_wrong l (header 2 2) 7 ≡ Bad k → AnExport l (header 2 2) 7 → ⊥
+pub no_export : (l : List ℕ) (k : ℕ) → first_wrong l (header 2 2) 7 ≡ Err k → AnExport l (header 2 2) 7 → ⊥
 no_export l k e = go 14 (k + 1) (import_refuses l (header 2 2) 7 [] header_octets 14 (k + 1) (ap (λ (o : AfterList). o.said) (refused l 7 k [] e))) refl
   where
     go : (a b : ℕ) → ImportRefuses l (header 2 2) 7 [] a b → a ≡ 14 → AnExport l (header 2 2) 7 → ⊥
@@ -163,7 +162,7 @@ longer_not = no_export longer 3 longer_wrong
 
 -- The line that is named is the first that no export could hold there: line 1 where the first is cut; line 3 of the list with a leading zero, of one without
 -- its last CR LF and of one that ends before it; line 4 behind the last; line 2 where no name is left above.
-line_named : (l : List ℕ) (k : ℕ) → first_wrong l (header 2 2) 7 ≡ Bad k → NamedLine l (header 2 2) 7 k
+line_named : (l : List ℕ) (k : ℕ) → first_wrong l (header 2 2) 7 ≡ Err k → NamedLine l (header 2 2) 7 k
 line_named l k e = first_line_lem l (header 2 2) 7 header_octets fit k e
 
 pub untitled_line : NamedLine (take 120 list) (header 2 2) 7 0

@@ -1,4 +1,5 @@
 -- Instances of the laws of the list, computed: none of them holds only because its hypotheses never do.
+use Rattle.std.specs.Prelude.{Ok, Err}
 use Rattle.octets.specs.Standard.{ℕ, ◌+◌, ◌≤◌, true, false, ◌≡◌, refl, sym, ap, ◌∙◌, arith, List, [], ◌∷◌, ◌++◌, length, length-append, take, drop, replicate}
 use Rattle.octets.specs.Standard.{sets}
 use Rattle.octets.specs.Number.{put_be32}
@@ -7,12 +8,10 @@ use Rattle.octets.proofs.Numbers.{all_bytes, are_bytes}
 use Rattle.record.specs.Fields.{edition_of}
 use Rattle.blocks.specs.Blocks.{block_of, first_bad}
 use Rattle.blocks.specs.Sealed.{sealed}
-use Rattle.blocks.specs.declared.Checked.TheVariants.{Sound, Bad}
 use Rattle.blocks.proofs.First.{good_each}
 use Rattle.table.specs.Check.{check_table}
 use Rattle.listing.specs.ListOf.{list_of, listable_at}
-use Rattle.listing.specs.Export.{AfterList, came, refusing, writing, exported}
-use Rattle.listing.specs.declared.Listed.TheVariants.{Written, Refused}
+use Rattle.listing.specs.Export.{AfterList, came, refusing, writing, exported, refused}
 use Rattle.importing.specs.Import.{fit_header, imported}
 use Rattle.importing.proofs.Importing.{import_gives}
 use Rattle.ndushavire.specs.Word.{word, list_word}
@@ -35,11 +34,11 @@ pub given_back : (other : List ℕ) → imported (take 261 list) (block_of table
 given_back other = gives_back table 7 list 261 list (are_bytes table table_bytes) exported_so other
 
 -- Import into an area as long as the table, and export of what it wrote.
-table_over : writing table table ≡ came (Written 1536) table
+table_over : writing table table ≡ came (Ok 1536) table
 unfolding writing over opened
 table_over = refl
 
-imported_so : imported list (header 2 2) 7 table ≡ came (Written 1536) table
+imported_so : imported list (header 2 2) 7 table ≡ came (Ok 1536) table
 imported_so =
     ap (λ (l : List ℕ). imported l (header 2 2) 7 table) (sym listed) ∙ import_gives (header 2 2) 7 table exportable table ∙ table_over
 
@@ -52,7 +51,7 @@ tabbed =
     let numbers : List ℕ = sets (replicate 512 0) 0 (2 ∷ 2 ∷ 0 ∷ 0 ∷ 0 ∷ 0 ∷ 0 ∷ 1 ∷ 0 ∷ 0 ∷ 0 ∷ 0 ∷ 0 ∷ 2 ∷ 1 ∷ 0 ∷ []) in
     header 2 1 ++ sealed (put_be32 (sets (sets numbers 16 (97 ∷ 9 ∷ [])) 144 (97 ∷ [])) 408 5)
 
-tabbed_sound : check_table tabbed 7 ≡ Sound 1
+tabbed_sound : check_table tabbed 7 ≡ Ok 1
 unfolding tabbed opened
 tabbed_sound = refl
 
@@ -71,7 +70,7 @@ thirteen area =
     (record { from = omega arith; to = omega arith; here = tabbed_unlisted; before = λ j a b. absurd (omega arith) }))
 
 -- A profile past the file, a header block of edition 1, an area without a byte.
-outside : check_table table 6 ≡ Bad 2
+outside : check_table table 6 ≡ Err 2
 unfolding opened
 outside = refl
 
@@ -105,7 +104,7 @@ list_size : length list ≡ 261
 unfolding opened
 list_size = refl
 
-listable_both : first_bad (listable_at table) 2 2 1 ≡ Sound 2
+listable_both : first_bad (listable_at table) 2 2 1 ≡ Ok 2
 unfolding opened
 listable_both = refl
 
@@ -132,7 +131,7 @@ earlier =
     let numbers : List ℕ = sets (replicate 512 0) 0 (1 ∷ 1 ∷ 0 ∷ 0 ∷ 0 ∷ 0 ∷ 0 ∷ 0 ∷ 0 ∷ 0 ∷ 0 ∷ 0 ∷ 0 ∷ 1 ∷ 1 ∷ 1 ∷ 0x68 ∷ []) in
     sealed (sets (sets numbers 80 (0x72 ∷ [])) 144 (1 ∷ 0x6e ∷ []))
 
-earlier_sound : check_table earlier 7 ≡ Sound 0
+earlier_sound : check_table earlier 7 ≡ Ok 0
 unfolding earlier opened
 earlier_sound = refl
 
@@ -185,19 +184,19 @@ roomy area h = never_short table 7 area (are_bytes table table_bytes) h
 abbrev profile : List ℕ
 profile = replicate 7 0
 
-pub word_exported : ReadsList (Written 261) 261
+pub word_exported : ReadsList (Ok 261) 261
 word_exported =
     let p : ExportPromise table profile list 261 list =
     record { word_is = sym (ap (λ (o : AfterList). list_word o.said) exported_so); list_is = sym (ap (λ (o : AfterList). o.area) exported_so) } in
     rw (ap (λ (o : AfterList). o.said) exported_so) at (export_said table profile list p)
 
-pub word_imported : ReadsList (Written 1536) 1536
+pub word_imported : ReadsList (Ok 1536) 1536
 word_imported =
     let p : ImportPromise list (header 2 2) profile table 1536 table =
     record { word_is = sym (ap (λ (o : AfterList). list_word o.said) imported_so); table_is = sym (ap (λ (o : AfterList). o.area) imported_so) } in
     rw (ap (λ (o : AfterList). o.said) imported_so) at (import_said list (header 2 2) profile table p)
 
-pub word_unlisted : ReadsList (Refused 13 1) (word 13 0 1)
+pub word_unlisted : ReadsList (refused 13 1) (word 13 0 1)
 word_unlisted =
     let p : ExportPromise tabbed profile [] (word 13 0 1) [] =
     record { word_is = sym (ap (λ (o : AfterList). list_word o.said) (thirteen [])); list_is = sym (ap (λ (o : AfterList). o.area) (thirteen [])) } in

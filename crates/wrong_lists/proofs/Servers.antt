@@ -1,19 +1,16 @@
 -- Wrong exports and imports. Each is a function here that is right but for one error, and at an input that is computed its outcome does not meet the promise.
+use Rattle.std.specs.Prelude.{Ok, Err, Result}
 use Rattle.octets.specs.Standard.{ℕ, zero, suc, ◌+◌, ◌*◌, Bool, ◌&&◌, cond, ◌≡◌, refl, sym, ap, ◌∙◌, arith, List, [], ◌∷◌, ◌++◌, length, take}
 use Rattle.octets.specs.Standard.{◌-◌, drop, eqb, eq-eqb, get_or, ◌≤◌, ◌≢◌}
 use Rattle.octets.specs.Run.{over}
 use Rattle.record.specs.Fields.{count_of, edition_of}
 use Rattle.record.specs.HeaderBlock.{header_of}
 use Rattle.blocks.specs.Blocks.{block_of, first_bad}
-use Rattle.blocks.specs.declared.Checked.{Checked}
-use Rattle.blocks.specs.declared.Checked.TheVariants.{Sound, Bad}
 use Rattle.table.specs.Check.{sound_at}
 use Rattle.decimals.specs.Decimal.{is_digit}
 use Rattle.rows.specs.Row.{Row, row_of, numbers_line}
 use Rattle.listing.specs.ListOf.{first_line}
-use Rattle.listing.specs.Export.{AfterList, refusing, writing, export_past, export_sound, export_checked, exported}
-use Rattle.listing.specs.declared.Listed.{Listed}
-use Rattle.listing.specs.declared.Listed.TheVariants.{Written, Refused}
+use Rattle.listing.specs.Export.{AfterList, refusing, writing, export_past, export_sound, export_checked, exported, Listed}
 use Rattle.importing.specs.Said.{place_of, table_said, holds_at, is_titled, over_records, first_wrong}
 use Rattle.importing.specs.Import.{fit_header, import_past, imported}
 use Rattle.importing.proofs.Importing.{import_gives}
@@ -50,7 +47,7 @@ unfolding truly
 truly_imports l h p a = record { word_is = refl; table_is = refl }
 
 -- what the promise leaves where the first wrong line is known
-word_given : (f : Importer) (l p a : List ℕ) (k : ℕ) → first_wrong l (header 2 2) (length p) ≡ Bad k → Imports f l (header 2 2) p a
+word_given : (f : Importer) (l p a : List ℕ) (k : ℕ) → first_wrong l (header 2 2) (length p) ≡ Err k → Imports f l (header 2 2) p a
     → (f l (header 2 2) p a).word ≡ 14 * 281474976710656 + (k + 1)
 word_given f l p a k e m = m.word_is ∙ ap (λ (o : AfterList). list_word o.said) (refused l (length p) k a e)
 
@@ -179,17 +176,17 @@ cutting_fails m =
     omega (arith, ap (λ (l : List ℕ). list_word (imported l (header 2 2) 7 table).said) cutting_cuts, taken_word)
 
 -- Of two bad lines the later is named.
-last_bad : (ℕ → Bool) → ℕ → ℕ → Checked
-last_bad good count zero = Sound count
-last_bad good count (suc n) = cond (good (suc n)) (last_bad good count n) (Bad (suc n))
+last_bad : (ℕ → Bool) → ℕ → ℕ → Result ℕ ℕ
+last_bad good count zero = Ok count
+last_bad good count (suc n) = cond (good (suc n)) (last_bad good count n) (Err (suc n))
 
-last_wrong : List ℕ → List ℕ → ℕ → Checked
-last_wrong l h file = cond (is_titled l) (over_records l (last_bad (holds_at l h file) (count_of h) (count_of h))) (Bad 0)
+last_wrong : List ℕ → List ℕ → ℕ → Result ℕ ℕ
+last_wrong l h file = cond (is_titled l) (over_records l (last_bad (holds_at l h file) (count_of h) (count_of h))) (Err 0)
 
 latest : Importer
 latest l h p a = leaving (cond (fit_header h) (import_past l h a (last_wrong l h (length p))) (refusing a 5 0))
 
-latest_names : last_wrong swapped (header 2 2) 6 ≡ Bad 2
+latest_names : last_wrong swapped (header 2 2) 6 ≡ Err 2
 unfolding last_wrong last_bad swapped opened
 latest_names = refl
 
@@ -203,14 +200,14 @@ latest_fails m =
     omega arith
 
 -- It is not asked whether names are left for the lines that follow.
-short_wrong : List ℕ → List ℕ → ℕ → Checked
+short_wrong : List ℕ → List ℕ → ℕ → Result ℕ ℕ
 short_wrong l h file =
-    cond (is_titled l) (over_records l (first_bad (sound_at (table_said l h) (header_of h) file) (count_of h) (count_of h) 1)) (Bad 0)
+    cond (is_titled l) (over_records l (first_bad (sound_at (table_said l h) (header_of h) file) (count_of h) (count_of h) 1)) (Err 0)
 
 shortsighted : Importer
 shortsighted l h p a = leaving (cond (fit_header h) (import_past l h a (short_wrong l h (length p))) (refusing a 5 0))
 
-shortsighted_names : short_wrong highest (header 2 2) 7 ≡ Bad 2
+shortsighted_names : short_wrong highest (header 2 2) 7 ≡ Err 2
 unfolding short_wrong highest opened
 shortsighted_names = refl
 
@@ -253,8 +250,8 @@ single_list t = first_line ++ single_lines t (count_of (block_of t 0))
 
 -- where the true export writes its list, this one writes that
 instead : Listed → AfterList → AfterList → AfterList
-instead (Written n) here other = here
-instead (Refused number value) here other = other
+instead (Ok n) here other = here
+instead (Err e) here other = other
 
 singly : Exporter
 singly t p a = leaving (instead (exported t (length p) a).said (writing a (single_list t)) (exported t (length p) a))
@@ -271,7 +268,7 @@ single_size : length (single_list table) ≡ 260
 unfolding single_list single_lines single_line single_quoted opened
 single_size = refl
 
-said_so : (exported table 7 list).said ≡ Written 261
+said_so : (exported table 7 list).said ≡ Ok 261
 unfolding writing
 said_so = ap (λ (o : AfterList). o.said) (exported_is list) ∙ rw list_size
 

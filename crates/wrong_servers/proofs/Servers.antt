@@ -1,8 +1,8 @@
 -- "Try these against it": document 01's five wrong servers, and others that break document 02 [1], [2], [8], [10] and [11]. Each is a function here, and at an
 -- input that is computed its outcome does not meet the promise.
+use Rattle.std.specs.Prelude.{Ok, Err}
 use Rattle.octets.specs.Standard.{ℕ, zero, suc, ◌≤◌, ◌≡◌, refl, sym, ap, ◌∙◌, ◌≢◌, List, [], ◌∷◌, ◌++◌, false, arith, length, get_or, take, drop, set}
 use Rattle.octets.specs.Run.{over}
-use Rattle.blocks.specs.declared.Checked.TheVariants.{Sound, Bad}
 use Rattle.table.specs.Area.{size_in, table_in, check_area}
 use Rattle.table.proofs.Areas.{check_exact, sound_size_in}
 use Rattle.vectors.specs.VectorFile.{check_vectors}
@@ -178,7 +178,7 @@ unfolding opened check_area table_in size_in
 block_fails f h p = h p.answer
 
 -- .. and of the check of vectors, any word but the number of blocks of a sound file, and any but the first bad block of another
-card_sound : check_vectors (vector 0 0x70 1) ≡ Sound 1
+card_sound : check_vectors (vector 0 0x70 1) ≡ Ok 1
 unfolding opened
 card_sound = refl
 
@@ -275,7 +275,7 @@ faulty_call : (serve faulty).call ≡ Answered (record { length = 140; place = 1
 unfolding opened faulty
 faulty_call =
     ap (λ (y : Served). y.call)
-    (serve_sound faulty 1 registered_sound ∙ come faulty {y = known false (Sound 1) (Sound 0) faulty} roomy registered_sound no_vectors refl)
+    (serve_sound faulty 1 registered_sound ∙ come faulty {y = known false (Ok 1) (Ok 0) faulty} roomy registered_sound no_vectors refl)
 
 second_served : serve second ≡ leaves 140 0 (one 0 1 s) (answer (number_bytes 268 5009) (failed (vendor_head 601 13 ++ (0x62 ∷ []))))
 unfolding opened second
@@ -326,14 +326,14 @@ whole : Server
 whole n x =
     record { word = call_word (serve_table x).call; table = (serve_table x).table; vectors = (serve_table x).vectors; buffer = (serve_table x).buffer }
 
-spacious_long : check_of spacious ≡ Bad 0
+spacious_long : check_of spacious ≡ Err 0
 unfolding opened spacious behind
 spacious_long = refl
 
 whole_refuses : (serve_table spacious).call ≡ Refused 5 0
 unfolding opened spacious removal
 whole_refuses =
-    ap (λ (y : Served). y.call) (come spacious {y = known false (Bad 0) (Sound 0) spacious} roomy spacious_long no_vectors refl)
+    ap (λ (y : Served). y.call) (come spacious {y = known false (Err 0) (Ok 0) spacious} roomy spacious_long no_vectors refl)
 
 whole_fails : (n : ℕ) → Meets whole n spacious → ⊥
 unfolding whole
@@ -447,7 +447,7 @@ hope = feature 128 10415 1 2
 want : List ℕ
 want = feature 192 10415 1 2
 
-supported : (features : ℕ) (req : List ℕ) {y : Served} → known false (Sound 1) (Sound 0) (supporting features req) ≡ y → serve (supporting features req) ≡ y
+supported : (features : ℕ) (req : List ℕ) {y : Served} → known false (Ok 1) (Ok 0) (supporting features req) ≡ y → serve (supporting features req) ≡ y
 unfolding supporting
 supported features req e =
     let x = supporting features req in

@@ -8,8 +8,8 @@ write-requires c = search (rules, sound_long)
 pub line-requires : goal.line-requires
 line-requires c = search (rules, line_few)
 
-pub returns-in-Sound : goal.returns-in-Sound
-returns-in-Sound c = search (rules, past_sound)
+pub returns-in-Ok : goal.returns-in-Ok
+returns-in-Ok c = search (rules, past_sound)
 
-pub returns-in-Bad : goal.returns-in-Bad
-returns-in-Bad c = search (rules, past_wrong)
+pub returns-in-Err : goal.returns-in-Err
+returns-in-Err c = search (rules, past_wrong)

@@ -5,8 +5,8 @@ use Rattle.calling.proofs.over_checked.Goals as goal
 pub over_sound-requires : goal.over_sound-requires
 over_sound-requires c = search (rules, checked_sound, dialect_own)
 
-pub returns-in-Sound : goal.returns-in-Sound
-returns-in-Sound c = search (rules, over_good)
+pub returns-in-Ok : goal.returns-in-Ok
+returns-in-Ok c = search (rules, over_good)
 
-pub returns-in-Bad : goal.returns-in-Bad
-returns-in-Bad c = search (rules, over_bad)
+pub returns-in-Err : goal.returns-in-Err
+returns-in-Err c = search (rules, over_bad)

@@ -5,8 +5,8 @@ use Rattle.calling.proofs.over_sound.Goals as goal
 pub answer_sound-requires : goal.answer_sound-requires
 answer_sound-requires c = search (rules, vectors_sound)
 
-pub returns-in-Sound : goal.returns-in-Sound
-returns-in-Sound c = search (rules, over_answered)
+pub returns-in-Ok : goal.returns-in-Ok
+returns-in-Ok c = search (rules, over_answered)
 
-pub returns-in-Bad : goal.returns-in-Bad
-returns-in-Bad c = search (rules, over_spoilt)
+pub returns-in-Err : goal.returns-in-Err
+returns-in-Err c = search (rules, over_spoilt)

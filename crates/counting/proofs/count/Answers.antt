@@ -8,8 +8,8 @@ count_answered-requires c = search (rules, answered_fits)
 pub count_refused-requires : goal.count_refused-requires
 count_refused-requires c = search (rules, refused_fits)
 
-pub returns-in-Answered : goal.returns-in-Answered
-returns-in-Answered c = search (rules, answered_counted)
+pub returns-in-Ok : goal.returns-in-Ok
+returns-in-Ok c = search (rules, answered_counted)
 
-pub returns-in-Refused : goal.returns-in-Refused
-returns-in-Refused c = search (rules, refused_counted)
+pub returns-in-Err : goal.returns-in-Err
+returns-in-Err c = search (rules, refused_counted)

@@ -6,7 +6,7 @@ pub loop-i-init : goal.loop-i-init
 loop-i-init c = search (rules, ending_none)
 
 pub loop-i-preserved : goal.loop-i-preserved
-loop-i-preserved c = (search rules, search rules, search (rules, ending_more))
+loop-i-preserved c = search (rules, ending_more)
 
 pub returns : goal.returns
 returns c = search (rules, ending_all)

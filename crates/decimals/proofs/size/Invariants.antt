@@ -1,9 +1,6 @@
-use Rattle.octets.specs.Standard.{◌+◌, ◌-◌, ◌≤◌, ◌≡◌}
+use Rattle.octets.specs.Standard.{◌+◌, ◌-◌, ◌≡◌}
 use Rattle.decimals.specs.Decimal.{digits_more, digit_count}
 use Rattle.decimals.proofs.size.Given as goal
 
 abbrev pub invariant-loop-size : goal.invariant-loop-size
-invariant-loop-size l = (1 ≤ l.size) × (l.size ≤ 10) × (digit_count l.n ≡ l.size + digits_more (10 - l.size) l.rest)
-
-abbrev pub decreases-loop-size : goal.decreases-loop-size
-decreases-loop-size l = 10 - l.size
+invariant-loop-size l = digit_count l.n ≡ l.size + digits_more (10 - l.size) l.rest

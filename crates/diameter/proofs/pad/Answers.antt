@@ -1,7 +1,7 @@
-use Rattle.octets.specs.Standard.{arith, refl}
+use Rattle.octets.specs.Standard.{arith}
 use Rattle.diameter.specs.Avp.{padded}
 use Rattle.diameter.proofs.pad.Goals as goal
 
 pub returns : goal.returns
 unfolding padded
-returns c = (refl, omega arith, omega arith)
+returns c = (omega arith, omega arith, omega arith)

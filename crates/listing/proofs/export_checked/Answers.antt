@@ -5,8 +5,8 @@ use Rattle.listing.proofs.export_checked.Goals as goal
 pub export_sound-requires : goal.export_sound-requires
 export_sound-requires c = search (rules, checked_sound)
 
-pub returns-in-Sound : goal.returns-in-Sound
-returns-in-Sound c = search (rules, checked_good)
+pub returns-in-Ok : goal.returns-in-Ok
+returns-in-Ok c = search (rules, checked_good)
 
-pub returns-in-Bad : goal.returns-in-Bad
-returns-in-Bad c = search (rules, checked_bad)
+pub returns-in-Err : goal.returns-in-Err
+returns-in-Err c = search (rules, checked_bad)

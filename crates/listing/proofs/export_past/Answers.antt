@@ -2,8 +2,8 @@ use Rattle.octets.specs.Standard.{rules}
 use Rattle.listing.proofs.Ways.{past_listed, past_unlisted}
 use Rattle.listing.proofs.export_past.Goals as goal
 
-pub returns-in-Sound : goal.returns-in-Sound
-returns-in-Sound c = search (rules, past_listed)
+pub returns-in-Ok : goal.returns-in-Ok
+returns-in-Ok c = search (rules, past_listed)
 
-pub returns-in-Bad : goal.returns-in-Bad
-returns-in-Bad c = search (rules, past_unlisted)
+pub returns-in-Err : goal.returns-in-Err
+returns-in-Err c = search (rules, past_unlisted)

@@ -1,5 +1,5 @@
 use Rattle.octets.specs.Standard.{rules}
-use Rattle.blocks.proofs.First.{first_bad_lem, first_more, first_none, below_stop, past_stop}
+use Rattle.blocks.proofs.First.{first_bad_lem, first_more, first_none}
 use Rattle.listing.proofs.Lists.{unlisted_all}
 use Rattle.listing.proofs.first_unlisted.Goals as goal
 
@@ -7,10 +7,10 @@ pub loop-k-init : goal.loop-k-init
 loop-k-init c = search (rules, unlisted_all)
 
 pub loop-k-preserved : goal.loop-k-preserved
-loop-k-preserved c = search (rules, first_more, below_stop)
+loop-k-preserved c = search (rules, first_more)
 
-pub returns-else-listable_at : goal.returns-else-listable_at
-returns-else-listable_at c = search (rules, first_bad_lem, below_stop)
+pub returns-then-not-listable_at : goal.returns-then-not-listable_at
+returns-then-not-listable_at c = search (rules, first_bad_lem)
 
 pub returns : goal.returns
-returns c = search (rules, first_none, past_stop)
+returns c = search (rules, first_none)

@@ -1,19 +1,10 @@
-use Rattle.octets.specs.Standard.{refl, rules}
-use Rattle.lookup.specs.Find.{find_private}
-use Rattle.lookup.proofs.First.{first_start, first_here, first_next, first_nothing}
-use Rattle.lookup.proofs.Scans.{private_here}
-use Rattle.table.proofs.Sound.{sound_few, sound_size}
+use Rattle.octets.specs.Standard.{rules}
+use Rattle.octets.specs.Name.{same}
+use Rattle.record.specs.Fields.{private_of}
+use Rattle.table.specs.Named.{private_at}
+use Rattle.lookup.specs.Find.{find_private, private_is}
 use Rattle.lookup.proofs.find_private.Goals as goal
 
-pub loop-k-init : goal.loop-k-init
-unfolding find_private
-loop-k-init c = (search (rules, sound_few), search (rules, sound_size), search rules, search rules, first_start _ _ refl)
-
-pub returns-then-same : goal.returns-then-same
-returns-then-same c = search (rules, first_here, private_here)
-
-pub loop-k-preserved : goal.loop-k-preserved
-loop-k-preserved c = search (rules, first_next, private_here)
-
 pub returns : goal.returns
-returns c = search (rules, first_nothing)
+unfolding find_private private_is private_at
+returns c = c.first_that.ensures (λ b. same (private_of b) c.args.name.now) (λ b x r. search rules)

@@ -6,5 +6,5 @@ use Rattle.lookup.proofs.known_near.Goals as goal
 pub block-requires : goal.block-requires
 block-requires c = search (rules, sound_block)
 
-pub returns-then-same : goal.returns-then-same
-returns-then-same c = search (rules, private_known)
+pub returns-then-belongs : goal.returns-then-belongs
+returns-then-belongs c = search (rules, private_known)

@@ -1,11 +1,7 @@
-use Rattle.octets.specs.Standard.{◌≤◌, ◌-◌, ◌≡◌, length, drop}
+use Rattle.octets.specs.Standard.{◌≤◌, length, drop}
 use Rattle.octets.proofs.Writes.{Going}
 use Rattle.markup.specs.Escapes.{escaped}
 use Rattle.markup.proofs.put_escaped.Given as goal
 
-abbrev pub invariant-loop-i : goal.invariant-loop-i
-invariant-loop-i l = (l.i ≤ length l.name) × (l.i-end ≡ length l.name) × (length l.out ≡ length l.initial.out) × (l.at ≤ length l.initial.out)
-    × Going l.initial.out l.out l.at (escaped (drop l.i l.name)) (escaped l.name)
-
-abbrev pub decreases-loop-i : goal.decreases-loop-i
-decreases-loop-i l = length l.name - l.i
+abbrev pub invariant-loop-x : goal.invariant-loop-x
+invariant-loop-x l = (l.at ≤ length l.initial.out) × Going l.initial.out l.out l.at (escaped (drop l.x-index l.name)) (escaped l.name)

@@ -1,5 +1,5 @@
 use Rattle.octets.specs.Standard.{rules}
-use Rattle.moving.proofs.Turns.{moving_none, moving_fits, moving_next, moving_kept, moving_end}
+use Rattle.moving.proofs.Turns.{moving_none, moving_fits, moving_next, moving_end}
 use Rattle.moving.proofs.move_all.Goals as goal
 
 pub loop-k-init : goal.loop-k-init
@@ -10,9 +10,6 @@ move_at-requires c = search (rules, moving_fits)
 
 pub loop-k-preserved : goal.loop-k-preserved
 loop-k-preserved c = search (rules, moving_next)
-
-pub shape_of-t : goal.shape_of-t
-shape_of-t c = search (rules, moving_kept)
 
 pub returns : goal.returns
 returns c = search (rules, moving_end)

@@ -1,7 +1,7 @@
 use Rattle.ndushavire.proofs.check_word.Goals as goal
 
-pub returns-in-Sound : goal.returns-in-Sound
-returns-in-Sound c = cc
+pub returns-in-Ok : goal.returns-in-Ok
+returns-in-Ok c = cc
 
-pub returns-in-Bad : goal.returns-in-Bad
-returns-in-Bad c = cc
+pub returns-in-Err : goal.returns-in-Err
+returns-in-Err c = cc

@@ -1,7 +1,7 @@
 use Rattle.ndushavire.proofs.list_word.Goals as goal
 
-pub returns-in-Written : goal.returns-in-Written
-returns-in-Written c = cc
+pub returns-in-Ok : goal.returns-in-Ok
+returns-in-Ok c = cc
 
-pub returns-in-Refused : goal.returns-in-Refused
-returns-in-Refused c = cc
+pub returns-in-Err : goal.returns-in-Err
+returns-in-Err c = cc

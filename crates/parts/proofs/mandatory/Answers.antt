@@ -1,16 +1,13 @@
-use Rattle.record.specs.Fields.{mandatory_of}
-use Rattle.parts.proofs.Fields.{record_room, part_there, part_short, part_none, mandatory_field, mandatory_few, mandatory_words}
-use Rattle.octets.specs.Standard.{rules}
+use Rattle.octets.specs.Standard.{lit≤}
+use Rattle.parts.proofs.Fields.{part_given, part_none, mandatory_field, mandatory_few, mandatory_words}
 use Rattle.parts.proofs.mandatory.Goals as goal
 
-pub block-b-requires : goal.block-b-requires
-block-b-requires c = search (rules, record_room)
-
 pub words-requires : goal.words-requires
-words-requires c = search (rules, mandatory_few)
+words-requires c = (mandatory_few _ _ c.requires _ _ _ c.in-Some.ensures.0 c.in-Some.ensures.1 c.byte.ensures.0, lit≤ tt)
 
-pub returns-then-has_record : goal.returns-then-has_record
-returns-then-has_record c = search (rules, part_there mandatory_of 16, part_short mandatory_of, mandatory_field, mandatory_words)
+pub returns-in-Some : goal.returns-in-Some
+returns-in-Some c =
+    part_given _ _ _ _ (mandatory_field _ _ c.requires) _ _ _ c.in-Some.ensures.0 c.in-Some.ensures.1 (mandatory_words _ _ _ c.byte.ensures.0 c.words.ensures)
 
-pub returns : goal.returns
-returns c = search (rules, part_none mandatory_of 16, mandatory_field)
+pub returns-in-None : goal.returns-in-None
+returns-in-None c = part_none _ _ _ _ (mandatory_field _ _ c.requires) _ c.in-None.ensures

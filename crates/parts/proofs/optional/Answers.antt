@@ -1,16 +1,13 @@
-use Rattle.record.specs.Fields.{optional_of}
-use Rattle.parts.proofs.Fields.{record_room, part_there, part_short, part_none, optional_field, optional_few, optional_words}
-use Rattle.octets.specs.Standard.{rules}
+use Rattle.octets.specs.Standard.{lit≤}
+use Rattle.parts.proofs.Fields.{part_given, part_none, optional_field, optional_few, optional_words}
 use Rattle.parts.proofs.optional.Goals as goal
 
-pub block-b-requires : goal.block-b-requires
-block-b-requires c = search (rules, record_room)
-
 pub words-requires : goal.words-requires
-words-requires c = search (rules, optional_few)
+words-requires c = (optional_few _ _ c.requires _ _ _ c.in-Some.ensures.0 c.in-Some.ensures.1 c.byte.ensures.0, lit≤ tt)
 
-pub returns-then-has_record : goal.returns-then-has_record
-returns-then-has_record c = search (rules, part_there optional_of 16, part_short optional_of, optional_field, optional_words)
+pub returns-in-Some : goal.returns-in-Some
+returns-in-Some c =
+    part_given _ _ _ _ (optional_field _ _ c.requires) _ _ _ c.in-Some.ensures.0 c.in-Some.ensures.1 (optional_words _ _ _ c.byte.ensures.0 c.words.ensures)
 
-pub returns : goal.returns
-returns c = search (rules, part_none optional_of 16, optional_field)
+pub returns-in-None : goal.returns-in-None
+returns-in-None c = part_none _ _ _ _ (optional_field _ _ c.requires) _ c.in-None.ensures

@@ -1,12 +1,8 @@
-use Rattle.parts.proofs.Fields.{record_room, profile_there, profile_short, profile_none}
-use Rattle.octets.specs.Standard.{rules}
+use Rattle.parts.proofs.Fields.{part_given, part_none, profile_field}
 use Rattle.parts.proofs.profile.Goals as goal
 
-pub block-requires : goal.block-requires
-block-requires c = search (rules, record_room)
+pub returns-in-Some : goal.returns-in-Some
+returns-in-Some c = part_given _ _ _ _ (profile_field _ _ _ c.requires) _ _ _ c.in-Some.ensures.0 c.in-Some.ensures.1 c.profile_in.ensures
 
-pub returns-then-has_record : goal.returns-then-has_record
-returns-then-has_record c = search (rules, profile_there, profile_short)
-
-pub returns : goal.returns
-returns c = search (rules, profile_none)
+pub returns-in-None : goal.returns-in-None
+returns-in-None c = part_none _ _ _ _ (profile_field _ _ _ c.requires) _ c.in-None.ensures

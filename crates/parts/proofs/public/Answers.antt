@@ -1,13 +1,8 @@
-use Rattle.record.specs.Fields.{public_of}
-use Rattle.parts.proofs.Fields.{record_room, part_there, part_short, part_none, public_field_lem}
-use Rattle.octets.specs.Standard.{rules}
+use Rattle.parts.proofs.Fields.{part_given, part_none, public_field_lem}
 use Rattle.parts.proofs.public.Goals as goal
 
-pub block-requires : goal.block-requires
-block-requires c = search (rules, record_room)
+pub returns-in-Some : goal.returns-in-Some
+returns-in-Some c = part_given _ _ _ _ (public_field_lem _ _ c.requires) _ _ _ c.in-Some.ensures.0 c.in-Some.ensures.1 c.public.ensures.0
 
-pub returns-then-has_record : goal.returns-then-has_record
-returns-then-has_record c = search (rules, part_there public_of 128, part_short public_of, public_field_lem)
-
-pub returns : goal.returns
-returns c = search (rules, part_none public_of 128, public_field_lem)
+pub returns-in-None : goal.returns-in-None
+returns-in-None c = part_none _ _ _ _ (public_field_lem _ _ c.requires) _ c.in-None.ensures

@@ -1,13 +1,8 @@
-use Rattle.record.specs.Fields.{server_of}
-use Rattle.parts.proofs.Fields.{record_room, part_there, part_short, part_none, server_field}
-use Rattle.octets.specs.Standard.{rules}
+use Rattle.parts.proofs.Fields.{part_given, part_none, server_field}
 use Rattle.parts.proofs.server.Goals as goal
 
-pub block-requires : goal.block-requires
-block-requires c = search (rules, record_room)
+pub returns-in-Some : goal.returns-in-Some
+returns-in-Some c = part_given _ _ _ _ (server_field _ _ c.requires) _ _ _ c.in-Some.ensures.0 c.in-Some.ensures.1 c.server.ensures.0
 
-pub returns-then-has_record : goal.returns-then-has_record
-returns-then-has_record c = search (rules, part_there server_of 96, part_short server_of, server_field)
-
-pub returns : goal.returns
-returns c = search (rules, part_none server_of 96, server_field)
+pub returns-in-None : goal.returns-in-None
+returns-in-None c = part_none _ _ _ _ (server_field _ _ c.requires) _ c.in-None.ensures

@@ -1,13 +1,8 @@
-use Rattle.record.specs.Fields.{private_of}
-use Rattle.parts.proofs.Fields.{record_room, part_there, part_short, part_none, user_field}
-use Rattle.octets.specs.Standard.{rules}
+use Rattle.parts.proofs.Fields.{part_given, part_none, user_field}
 use Rattle.parts.proofs.user.Goals as goal
 
-pub block-requires : goal.block-requires
-block-requires c = search (rules, record_room)
+pub returns-in-Some : goal.returns-in-Some
+returns-in-Some c = part_given _ _ _ _ (user_field _ _ c.requires) _ _ _ c.in-Some.ensures.0 c.in-Some.ensures.1 c.private.ensures.0
 
-pub returns-then-has_record : goal.returns-then-has_record
-returns-then-has_record c = search (rules, part_there private_of 128, part_short private_of, user_field)
-
-pub returns : goal.returns
-returns c = search (rules, part_none private_of 128, user_field)
+pub returns-in-None : goal.returns-in-None
+returns-in-None c = part_none _ _ _ _ (user_field _ _ c.requires) _ c.in-None.ensures

@@ -1,6 +1,6 @@
+use Rattle.octets.specs.Standard.{refl}
 use Rattle.pen.proofs.Writers.{wrote_copied}
-use Rattle.octets.specs.Standard.{rules}
 use Rattle.pen.proofs.put_copy.Goals as goal
 
 pub returns : goal.returns
-returns c = search (rules, wrote_copied)
+returns c = (refl, wrote_copied _ c.requires c.copy_from_slice.ensures.after (c.fill.ensures.after (λ y e. e)))

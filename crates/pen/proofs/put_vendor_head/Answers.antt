@@ -1,6 +1,6 @@
-use Rattle.pen.proofs.Writers.{wrote_vendor_head}
-use Rattle.octets.specs.Standard.{rules}
+use Rattle.pen.specs.Bytes.{vendor_head}
 use Rattle.pen.proofs.put_vendor_head.Goals as goal
 
 pub returns : goal.returns
-returns c = search (rules, wrote_vendor_head)
+unfolding vendor_head
+returns c = c.put_long_head.ensures

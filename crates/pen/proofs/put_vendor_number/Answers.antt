@@ -1,6 +1,6 @@
-use Rattle.pen.proofs.Writers.{wrote_vendor_number}
-use Rattle.octets.specs.Standard.{rules}
+use Rattle.pen.specs.Bytes.{vendor_head, vendor_number}
 use Rattle.pen.proofs.put_vendor_number.Goals as goal
 
 pub returns : goal.returns
-returns c = search (rules, wrote_vendor_number)
+unfolding vendor_head vendor_number
+returns c = c.put_long_number.ensures

@@ -1,12 +1,5 @@
-use Rattle.octets.specs.Standard.{refl, arith, length-set}
-use Rattle.octets.proofs.Writes.{over_sets}
+use Rattle.pen.proofs.Writers.{wrote_word}
 use Rattle.pen.proofs.put_word.Goals as goal
 
-pub bounds-out-1 : goal.bounds-out-1
-bounds-out-1 c = simp length-set (omega arith)
-
-pub bounds-out-2 : goal.bounds-out-2
-bounds-out-2 c = simp length-set (omega arith)
-
 pub returns : goal.returns
-returns c = record { count = refl; bytes = over_sets _ _ c.requires }
+returns c = wrote_word _ (rw c.to_be_bytes.ensures at c.copy_from_slice.ensures.after)

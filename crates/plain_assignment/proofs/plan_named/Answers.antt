@@ -1,6 +1,6 @@
+use Rattle.octets.specs.Standard.{rules}
 use Rattle.assignment.proofs.Plans.{found_first}
 use Rattle.plain_assignment.proofs.Surveyed.{named_plan}
-use Rattle.octets.specs.Standard.{rules}
 use Rattle.plain_assignment.proofs.plan_named.Goals as goal
 
 pub survey_by-v-requires : goal.survey_by-v-requires

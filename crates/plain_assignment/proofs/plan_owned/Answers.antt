@@ -1,6 +1,8 @@
-use Rattle.plain_assignment.proofs.Surveyed.{owned_plan}
 use Rattle.octets.specs.Standard.{rules}
+use Rattle.assignment.specs.Assignment.{assign_meant, owned_survey, survey_of}
+use Rattle.assignment.specs.Survey.{also_known}
 use Rattle.plain_assignment.proofs.plan_owned.Goals as goal
 
 pub returns : goal.returns
-returns c = search (rules, owned_plan)
+unfolding assign_meant owned_survey survey_of also_known
+returns c = search rules

@@ -6,8 +6,8 @@ use Rattle.plain_calling.proofs.over_table.Goals as goal
 pub over_vectors-requires : goal.over_vectors-requires
 over_vectors-requires c = search (rules, checked_sound, dialect_own, wanted_own)
 
-pub returns-in-Sound : goal.returns-in-Sound
-returns-in-Sound c = search (rules, over_good)
+pub returns-in-Ok : goal.returns-in-Ok
+returns-in-Ok c = search (rules, over_good)
 
-pub returns-in-Bad : goal.returns-in-Bad
-returns-in-Bad c = search (rules, over_bad)
+pub returns-in-Err : goal.returns-in-Err
+returns-in-Err c = search (rules, over_bad)

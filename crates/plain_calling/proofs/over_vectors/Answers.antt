@@ -6,8 +6,8 @@ use Rattle.plain_calling.proofs.over_vectors.Goals as goal
 pub answer-requires : goal.answer-requires
 answer-requires c = search (rules, vectors_sound)
 
-pub returns-in-Sound : goal.returns-in-Sound
-returns-in-Sound c = search (rules, over_answered)
+pub returns-in-Ok : goal.returns-in-Ok
+returns-in-Ok c = search (rules, over_answered)
 
-pub returns-in-Bad : goal.returns-in-Bad
-returns-in-Bad c = search (rules, over_spoilt)
+pub returns-in-Err : goal.returns-in-Err
+returns-in-Err c = search (rules, over_spoilt)

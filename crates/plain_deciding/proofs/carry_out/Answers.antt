@@ -1,4 +1,4 @@
-use Rattle.deciding.proofs.Deciding.{deed_settles, deed_challenges, done_leave, done_settle, done_challenge}
+use Rattle.deciding.proofs.Deciding.{deed_settles, deed_challenges}
 use Rattle.octets.specs.Standard.{rules}
 use Rattle.plain_deciding.proofs.carry_out.Goals as goal
 
@@ -7,12 +7,3 @@ settle-requires c = search (rules, deed_settles)
 
 pub challenge-requires : goal.challenge-requires
 challenge-requires c = search (rules, deed_challenges)
-
-pub returns-in-Leave : goal.returns-in-Leave
-returns-in-Leave c = search (rules, done_leave)
-
-pub returns-in-Settle : goal.returns-in-Settle
-returns-in-Settle c = search (rules, done_settle)
-
-pub returns-in-Challenge : goal.returns-in-Challenge
-returns-in-Challenge c = search (rules, done_challenge)

@@ -1,15 +1,12 @@
+use Rattle.std.proofs.iter.runs.Sources.{ranges}
 use Rattle.octets.specs.Standard.{rules}
-use Rattle.plain_looks.proofs.Turns.{some_start, some_here, some_more, some_none}
+use Rattle.reading.specs.Places.{seen_of}
+use Rattle.plain_looks.specs.Looks.{asks_at}
+use Rattle.plain_looks.proofs.Turns.{some_is}
+use Rattle.plain_reading.proofs.Turns.{seen_length}
 use Rattle.plain_looks.proofs.asks.Goals as goal
 
-pub loop-i-init : goal.loop-i-init
-loop-i-init c = search (rules, some_start)
-
-pub returns-then-asks_at : goal.returns-then-asks_at
-returns-then-asks_at c = search (rules, some_here)
-
-pub loop-i-preserved : goal.loop-i-preserved
-loop-i-preserved c = search (rules, some_more)
-
 pub returns : goal.returns
-returns c = search (rules, some_none)
+returns c =
+    rw (seen_length c.args.l.now.req.now c.args.l.now.list.now)
+    (some_is (asks_at c.args.set (seen_of c.args.l.now.req.now c.args.l.now.list.now)) c.args.l.now.list.now _ (search (rules, ranges)) (search (rules, ranges)))

@@ -3,8 +3,8 @@ use Rattle.diameter.proofs.Reading.{read_here}
 use Rattle.plain_looks.proofs.Turns.{calls_cut, calls_whole}
 use Rattle.plain_looks.proofs.calls_at.Goals as goal
 
-pub returns-in_default : goal.returns-in_default
-returns-in_default c = search (rules, calls_cut)
+pub returns-in-Err : goal.returns-in-Err
+returns-in-Err c = search (rules, calls_cut)
 
 pub kind_of-requires : goal.kind_of-requires
 kind_of-requires c = search (rules, read_here)
@@ -12,5 +12,5 @@ kind_of-requires c = search (rules, read_here)
 pub passes-requires : goal.passes-requires
 passes-requires c = search (rules, read_here)
 
-pub returns : goal.returns
-returns c = search (rules, calls_whole)
+pub returns-in-Ok : goal.returns-in-Ok
+returns-in-Ok c = search (rules, calls_whole)

@@ -7,8 +7,5 @@ use Rattle.plain_looks.specs.Looks.{proxies_from}
 use Rattle.plain_looks.proofs.put_proxies.Given as goal
 
 abbrev pub invariant-loop-i : goal.invariant-loop-i
-invariant-loop-i l = (length l.out ≡ length l.initial.out) × (l.n ≤ length l.initial.out) × (l.i ≤ length l.list)
-    × Going l.initial.out l.out l.n (proxies_from (seen_of l.req l.list) (length l.list - l.i) l.i) (proxies (body_of l.req))
-
-abbrev pub decreases-loop-i : goal.decreases-loop-i
-decreases-loop-i l = length l.list - l.i
+invariant-loop-i l = (length l.out ≡ length l.initial.out) × (l.n ≤ length l.initial.out)
+    × Going l.initial.out l.out l.n (proxies_from (seen_of l.l.req.now l.l.list.now) (length l.l.list.now - l.i) l.i) (proxies (body_of l.l.req.now))

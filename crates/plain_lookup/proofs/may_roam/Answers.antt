@@ -1,10 +1,9 @@
-use Rattle.table.proofs.Sound.{sound_first}
-use Rattle.plain_lookup.proofs.Looks.{roams}
+use Rattle.plain_lookup.proofs.Looks.{roams, roams_nowhere}
 use Rattle.octets.specs.Standard.{rules}
 use Rattle.plain_lookup.proofs.may_roam.Goals as goal
 
-pub block-requires : goal.block-requires
-block-requires c = search (rules, sound_first)
+pub returns-in-Some : goal.returns-in-Some
+returns-in-Some c = search (rules, roams)
 
-pub returns : goal.returns
-returns c = search (rules, roams)
+pub returns-in-None : goal.returns-in-None
+returns-in-None c = search (rules, roams_nowhere)

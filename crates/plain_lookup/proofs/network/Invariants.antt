@@ -1,13 +1,10 @@
 use Rattle.record.specs.Fields.{networks_of}
 use Rattle.blocks.specs.Blocks.{block_of}
 use Rattle.lookup.specs.Network.{network_is, seek, network_number}
-use Rattle.octets.specs.Standard.{◌≤◌, ◌-◌, ◌≡◌}
+use Rattle.octets.specs.Standard.{◌-◌, ◌≤◌, ◌≡◌}
 use Rattle.plain_lookup.proofs.network.Given as goal
 
 abbrev pub invariant-loop-i : goal.invariant-loop-i
 invariant-loop-i l =
-    (l.networks ≤ 8) × (l.networks ≡ networks_of (block_of l.t 0)) × (l.i ≤ l.networks)
-    × (network_number (block_of l.t 0) (networks_of (block_of l.t 0)) l.name ≡ seek (network_is (block_of l.t 0) l.name) (l.networks - l.i) l.i)
-
-abbrev pub decreases-loop-i : goal.decreases-loop-i
-decreases-loop-i l = l.networks - l.i
+    (l.i-end ≤ 8) × (l.i-end ≡ networks_of (block_of l.t 0))
+    × (network_number (block_of l.t 0) (networks_of (block_of l.t 0)) l.name ≡ seek (network_is (block_of l.t 0) l.name) (l.i-end - l.i) l.i)

@@ -5,5 +5,5 @@ use Rattle.plain_reading.proofs.earlier.Goals as goal
 pub returns-then-y-x : goal.returns-then-y-x
 returns-then-y-x c = search (rules, earlier_second)
 
-pub returns : goal.returns
-returns c = search (rules, earlier_first)
+pub returns-else-y-x : goal.returns-else-y-x
+returns-else-y-x c = search (rules, earlier_first)

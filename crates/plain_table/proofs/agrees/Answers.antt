@@ -1,13 +1,9 @@
-use Rattle.octets.proofs.All.{all_none, all_more}
-use Rattle.plain_table.proofs.Tables.{pairs_all}
 use Rattle.octets.specs.Standard.{rules}
+use Rattle.std.proofs.iter.runs.Sources.{ranges}
+use Rattle.table.specs.Check.{agrees_at, agrees_with}
+use Rattle.plain_table.proofs.Comparing.{all_from}
 use Rattle.plain_table.proofs.agrees.Goals as goal
 
-pub loop-i-init : goal.loop-i-init
-loop-i-init c = search (rules, all_none)
-
-pub loop-i-preserved : goal.loop-i-preserved
-loop-i-preserved c = search (rules, all_more)
-
 pub returns : goal.returns
-returns c = search (rules, pairs_all)
+unfolding agrees_at
+returns c = all_from (agrees_with c.args.t.now c.args.k) c.args.k c.args.t.now (search (rules, ranges)) (search (rules, ranges))

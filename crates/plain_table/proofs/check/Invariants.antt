@@ -5,8 +5,5 @@ use Rattle.plain_table.proofs.check.Given as goal
 
 abbrev pub invariant-loop-k : goal.invariant-loop-k
 invariant-loop-k l =
-    (l.count ≤ 4096) × (l.count ≡ l.h.count) × (l.h.networks ≤ 8) × (length l.t ≡ 512 * (l.count + 1)) × (1 ≤ l.k) × (l.k ≤ l.count + 1)
+    (l.count ≤ 4096) × (l.count ≡ l.h.count) × (l.h.networks ≤ 8) × (length l.t ≡ 512 * (l.count + 1))
     × (check_table l.t l.file ≡ first_bad (sound_at l.t l.h l.file) l.h.count (l.count + 1 - l.k) l.k)
-
-abbrev pub decreases-loop-k : goal.decreases-loop-k
-decreases-loop-k l = l.count + 1 - l.k

@@ -1,6 +1,7 @@
-use Rattle.vectors.proofs.Choosing.{also_is}
-use Rattle.octets.specs.Standard.{rules}
+use Rattle.octets.specs.Standard.{refl}
+use Rattle.vectors.specs.Sendable.{sent_also}
 use Rattle.plain_vectors.proofs.also.Goals as goal
 
 pub returns : goal.returns
-returns c = search (rules, also_is)
+unfolding sent_also
+returns c = refl

@@ -14,8 +14,8 @@ after-i-requires c = search (rules, not_closing)
 pub loop-i-preserved : goal.loop-i-preserved
 loop-i-preserved c = (search rules, search rules, search (rules, begun_more))
 
-pub returns-else-is_listed : goal.returns-else-is_listed
-returns-else-is_listed c = search (rules, begun_not)
+pub returns-then-not-is_listed : goal.returns-then-not-is_listed
+returns-then-not-is_listed c = search (rules, begun_not)
 
 pub returns : goal.returns
 returns c = search (rules, begun_open)

@@ -1,9 +1,6 @@
-use Rattle.octets.specs.Standard.{◌-◌, ◌≡◌, length, drop}
+use Rattle.octets.specs.Standard.{◌≡◌, drop}
 use Rattle.quoting.specs.Quoted.{listable}
 use Rattle.quoting.proofs.listable.Given as goal
 
-abbrev pub invariant-loop-i : goal.invariant-loop-i
-invariant-loop-i l = listable l.name ≡ listable (drop l.i l.name)
-
-abbrev pub decreases-loop-i : goal.decreases-loop-i
-decreases-loop-i l = length l.name - l.i
+abbrev pub invariant-loop-x : goal.invariant-loop-x
+invariant-loop-x l = listable l.name ≡ listable (drop l.x-index l.name)

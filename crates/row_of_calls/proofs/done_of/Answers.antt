@@ -14,8 +14,8 @@ marks-requires c = search rules
 pub enum_told-1 : goal.enum_told-1
 enum_told-1 c = search rules
 
-pub returns-in-Answered : goal.returns-in-Answered
-returns-in-Answered c = search (rules, done_answered)
+pub returns-in-Ok : goal.returns-in-Ok
+returns-in-Ok c = search (rules, done_answered)
 
-pub returns-in-Refused : goal.returns-in-Refused
-returns-in-Refused c = cc
+pub returns-in-Err : goal.returns-in-Err
+returns-in-Err c = cc

@@ -8,20 +8,20 @@ enum_known-c c = search rules
 pub put_word-requires : goal.put_word-requires
 put_word-requires c = search rules
 
-pub enum_known-c-in-Refused-1 : goal.enum_known-c-in-Refused-1
-enum_known-c-in-Refused-1 c = search rules
+pub enum_known-c-in-Err-1 : goal.enum_known-c-in-Err-1
+enum_known-c-in-Err-1 c = search rules
 
-pub put_word-requires-in-Refused : goal.put_word-requires-in-Refused
-put_word-requires-in-Refused c = search rules
+pub put_word-requires-in-Err : goal.put_word-requires-in-Err
+put_word-requires-in-Err c = search rules
 
-pub shape_of-out-in-Answered : goal.shape_of-out-in-Answered
-shape_of-out-in-Answered c = search rules
+pub shape_of-out-in-Ok : goal.shape_of-out-in-Ok
+shape_of-out-in-Ok c = search rules
 
-pub returns-in-Answered : goal.returns-in-Answered
-returns-in-Answered c = search (rules, answer_written)
+pub returns-in-Ok : goal.returns-in-Ok
+returns-in-Ok c = search (rules, answer_written)
 
-pub shape_of-out-in-Refused : goal.shape_of-out-in-Refused
-shape_of-out-in-Refused c = search rules
+pub shape_of-out-in-Err : goal.shape_of-out-in-Err
+shape_of-out-in-Err c = search rules
 
-pub returns-in-Refused : goal.returns-in-Refused
-returns-in-Refused c = search (rules, refusal_written)
+pub returns-in-Err : goal.returns-in-Err
+returns-in-Err c = search (rules, refusal_written)

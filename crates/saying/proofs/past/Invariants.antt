@@ -1,9 +1,6 @@
-use Rattle.octets.specs.Standard.{◌+◌, ◌-◌, ◌≤◌, ◌≡◌, length, drop}
+use Rattle.octets.specs.Standard.{◌+◌, ◌≡◌, drop}
 use Rattle.saying.specs.Passed.{line_size}
 use Rattle.saying.proofs.past.Given as goal
 
 abbrev pub invariant-loop-i : goal.invariant-loop-i
-invariant-loop-i l = (l.i ≤ length l.list) × (l.at + line_size (drop l.at l.list) ≡ l.i + line_size (drop l.i l.list))
-
-abbrev pub decreases-loop-i : goal.decreases-loop-i
-decreases-loop-i l = length l.list - l.i
+invariant-loop-i l = l.at + line_size (drop l.at l.list) ≡ l.i + line_size (drop l.i l.list)

@@ -7,7 +7,7 @@ pub returns-then-k-le1 : goal.returns-then-k-le1
 returns-then-k-le1 c = search (rules, rises_first)
 
 pub less-requires : goal.less-requires
-less-requires c = (search rules, search rules, search (rules, padded_before), search (rules, padded_lent))
+less-requires c = (search (rules, padded_before), search (rules, padded_lent))
 
-pub returns : goal.returns
-returns c = search (rules, rises_later)
+pub returns-else-k-le1 : goal.returns-else-k-le1
+returns-else-k-le1 c = search (rules, rises_later)

@@ -9,18 +9,17 @@ loop-m-init c = search (rules, leading_all, all_none, before_first)
 
 pub loop-m-preserved : goal.loop-m-preserved
 loop-m-preserved c = (
-  search rules,
-  leading_more _ _ _ c.loop-m.invariant.1 (search rules) c.stands.ensures c.if-stands.true,
-  setless_more _ _ c.loop-m.sets _ c.loop-m.invariant.2
+  leading_more _ _ _ c.loop-m.invariant.0 (search rules) c.stands.ensures c.if-not-stands.false,
+  setless_more _ _ c.loop-m.sets _ c.loop-m.invariant.1
       c.set_after-sets.ensures,
-  before_next _ _ _ _ c.stands.ensures c.if-stands.true,
+  before_next _ _ _ _ c.stands.ensures c.if-not-stands.false,
 )
 
-pub returns-else-stands : goal.returns-else-stands
-returns-else-stands c = (
-  leading_stop _ _ _ c.loop-m.invariant.1 (search rules) c.stands.ensures c.if-stands.false,
+pub returns-then-not-stands : goal.returns-then-not-stands
+returns-then-not-stands c = (
+  leading_stop _ _ _ c.loop-m.invariant.0 (search rules) c.stands.ensures c.if-not-stands.true,
   search rules,
-  setless_left _ _ c.loop-m.sets _ c.loop-m.invariant.2,
+  setless_left _ _ c.loop-m.sets _ c.loop-m.invariant.1,
 )
 
 pub returns : goal.returns

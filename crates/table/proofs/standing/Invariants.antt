@@ -1,4 +1,4 @@
-use Rattle.octets.specs.Standard.{◌+◌, ◌-◌, ◌≤◌, ◌≡◌, eqb}
+use Rattle.octets.specs.Standard.{◌+◌, ◌-◌, ◌≡◌, eqb}
 use Rattle.octets.specs.All.{all_below}
 use Rattle.table.specs.Check.{stands_at}
 use Rattle.table.specs.Leading.{leading, setless}
@@ -7,8 +7,5 @@ use Rattle.table.proofs.standing.Given as goal
 
 abbrev pub invariant-loop-m : goal.invariant-loop-m
 invariant-loop-m l =
-    (l.m ≤ l.h.count) × (leading (stands_at l.t l.h l.file) l.h.count 1 ≡ l.m + leading (stands_at l.t l.h l.file) (l.h.count - l.m) (l.m + 1)) × (eqb l.sets 0 ≡ all_below (setless l.t) l.m)
+    (leading (stands_at l.t l.h l.file) l.h.count 1 ≡ l.m + leading (stands_at l.t l.h l.file) (l.h.count - l.m) (l.m + 1)) × (eqb l.sets 0 ≡ all_below (setless l.t) l.m)
     × Before l.t (l.m + 1)
-
-abbrev pub decreases-loop-m : goal.decreases-loop-m
-decreases-loop-m l = l.h.count - l.m

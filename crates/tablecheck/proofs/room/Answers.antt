@@ -1,5 +1,5 @@
-use Rattle.files.proofs.Counts.{zeros_length}
+use Rattle.octets.specs.Standard.{ℕ, sym, length-replicate}
 use Rattle.tablecheck.proofs.room.Goals as goal
 
 pub returns : goal.returns
-returns c = zeros_length 2098176
+returns c = sym (length-replicate {A = ℕ} 2098176 0)

@@ -1,5 +1,5 @@
 use Rattle.octets.specs.Standard.{rules}
-use Rattle.taking.proofs.Turns.{cut_none, cut_begun, cut_next, cut_kept, cut_end}
+use Rattle.taking.proofs.Turns.{cut_none, cut_begun, cut_next, cut_end}
 use Rattle.taking.proofs.write_all.Goals as goal
 
 pub loop-k-init : goal.loop-k-init
@@ -9,7 +9,7 @@ pub write_block-requires : goal.write_block-requires
 write_block-requires c = search (rules, cut_begun)
 
 pub loop-k-preserved : goal.loop-k-preserved
-loop-k-preserved c = (search rules, search (rules, cut_kept), search (rules, cut_next))
+loop-k-preserved c = search (rules, cut_next)
 
 pub returns : goal.returns
 returns c = search (rules, cut_end)

@@ -9,5 +9,5 @@ put_name-requires c = search (rules, name_room)
 pub returns-then-asked-name : goal.returns-then-asked-name
 returns-then-asked-name c = search (rules, wrote_name_there)
 
-pub returns : goal.returns
-returns c = search (rules, wrote_no_name)
+pub returns-else-asked-name : goal.returns-else-asked-name
+returns-else-asked-name c = search (rules, wrote_no_name)

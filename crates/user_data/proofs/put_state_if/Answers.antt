@@ -9,5 +9,5 @@ put_state-requires c = search (rules, state_room)
 pub returns-then-asked : goal.returns-then-asked
 returns-then-asked c = (search (rules, state_within), search (rules, wrote_state_there))
 
-pub returns : goal.returns
-returns c = search (rules, wrote_no_state)
+pub returns-else-asked : goal.returns-else-asked
+returns-else-asked c = search (rules, wrote_no_state)

@@ -11,8 +11,8 @@ returns-in_default c = search (rules, means_none)
 pub returns-then-removal : goal.returns-then-removal
 returns-then-removal c = search (rules, means_removal)
 
-pub returns-in_default-next_identity : goal.returns-in_default-next_identity
-returns-in_default-next_identity c = search (rules, means_one)
+pub returns-in-None : goal.returns-in-None
+returns-in-None c = search (rules, means_one)
 
-pub returns : goal.returns
-returns c = search (rules, means_second)
+pub returns-in-Some-next_identity : goal.returns-in-Some-next_identity
+returns-in-Some-next_identity c = search (rules, means_second)

@@ -6,8 +6,8 @@ use Rattle.assignment.proofs.naming.settle_found.Goals as goal
 pub change_set-requires : goal.change_set-requires
 change_set-requires c = (search rules, search (rules, among_from), search (rules, among_to), search (rules, change_fits))
 
-pub returns-in-At : goal.returns-in-At
-returns-in-At c = (search (rules, found_settled), search rules, search (rules, few_altered))
+pub returns-in-Some : goal.returns-in-Some
+returns-in-Some c = (search (rules, found_settled), search rules, search (rules, few_altered))
 
-pub returns-in-Nothing : goal.returns-in-Nothing
-returns-in-Nothing c = (search (rules, found_none), search (rules, none_altered), search rules)
+pub returns-in-None : goal.returns-in-None
+returns-in-None c = (search (rules, found_none), search (rules, none_altered), search rules)

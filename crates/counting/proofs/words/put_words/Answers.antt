@@ -6,7 +6,7 @@ pub loop-i-init : goal.loop-i-init
 loop-i-init c = search (rules, words_none)
 
 pub loop-i-preserved : goal.loop-i-preserved
-loop-i-preserved c = (search rules, search rules, search (rules, words_next))
+loop-i-preserved c = (search rules, search (rules, words_next))
 
 pub returns : goal.returns
 returns c = search (rules, words_all)

@@ -2,14 +2,14 @@ use Rattle.deciding.proofs.Answering.{planned_uar, planned_sar, planned_lir, pla
 use Rattle.octets.specs.Standard.{rules}
 use Rattle.deciding.proofs.planning.plan_read.Goals as goal
 
-pub returns-then-dialect-eq-UAR : goal.returns-then-dialect-eq-UAR
-returns-then-dialect-eq-UAR c = search (rules, planned_uar)
+pub returns-in-300 : goal.returns-in-300
+returns-in-300 c = search (rules, planned_uar)
 
-pub returns-then-dialect-eq-SAR : goal.returns-then-dialect-eq-SAR
-returns-then-dialect-eq-SAR c = search (rules, planned_sar)
+pub returns-in-301 : goal.returns-in-301
+returns-in-301 c = search (rules, planned_sar)
 
-pub returns-then-dialect-eq-LIR : goal.returns-then-dialect-eq-LIR
-returns-then-dialect-eq-LIR c = search (rules, planned_lir)
+pub returns-in-302 : goal.returns-in-302
+returns-in-302 c = search (rules, planned_lir)
 
-pub returns : goal.returns
-returns c = search (rules, planned_mar)
+pub returns-in_default : goal.returns-in_default
+returns-in_default c = search (rules, planned_mar)

@@ -1,6 +1,5 @@
 use Rattle.envelope.proofs.Written.{wrote_header}
-use Rattle.octets.specs.Standard.{rules}
 use Rattle.envelope.proofs.header.put_header.Goals as goal
 
 pub returns : goal.returns
-returns c = search (rules, wrote_header)
+returns c = wrote_header _ _ _ _ c.requires.1 c.flags_of.ensures c.put_start.ensures c.copy_from_slice.ensures.after

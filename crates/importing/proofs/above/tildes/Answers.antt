@@ -3,10 +3,10 @@ use Rattle.importing.proofs.High.{tilde_more, tilde_stop, tilde_end}
 use Rattle.importing.proofs.above.tildes.Goals as goal
 
 pub loop-i-preserved : goal.loop-i-preserved
-loop-i-preserved c = (search rules, search (rules, tilde_more))
+loop-i-preserved c = search (rules, tilde_more)
 
-pub returns-else-byte_or_zero-eq-TILDE : goal.returns-else-byte_or_zero-eq-TILDE
-returns-else-byte_or_zero-eq-TILDE c = search (rules, tilde_stop)
+pub returns-then-byte_or_zero-ne-TILDE : goal.returns-then-byte_or_zero-ne-TILDE
+returns-then-byte_or_zero-ne-TILDE c = search (rules, tilde_stop)
 
 pub returns : goal.returns
 returns c = search (rules, tilde_end)

@@ -1,9 +1,6 @@
-use Rattle.octets.specs.Standard.{◌-◌, ◌≤◌, ◌≡◌, drop}
+use Rattle.octets.specs.Standard.{◌-◌, ◌≡◌, drop}
 use Rattle.importing.specs.Above.{tildes}
 use Rattle.importing.proofs.above.tildes.Given as goal
 
 abbrev pub invariant-loop-i : goal.invariant-loop-i
-invariant-loop-i l = (l.i ≤ 126) × (tildes 126 l.name ≡ tildes (126 - l.i) (drop l.i l.name))
-
-abbrev pub decreases-loop-i : goal.decreases-loop-i
-decreases-loop-i l = 126 - l.i
+invariant-loop-i l = tildes 126 l.name ≡ tildes (126 - l.i) (drop l.i l.name)

@@ -6,21 +6,10 @@ use Rattle.judging.proofs.Slots.{noted_next}
 use Rattle.judging.proofs.members.agreeing.Goals as goal
 
 pub loop-m-init : goal.loop-m-init
-loop-m-init c = (
-  search rules,
-  search (rules, leading_all),
-  search (rules, remember_none),
-  search (rules, agreed_none),
-  search (rules, place_first),
-  search rules,
-  search rules,
-  search rules,
-)
+loop-m-init c = (search (rules, leading_all), search (rules, remember_none), search (rules, agreed_none), search (rules, place_first), search rules)
 
 pub agrees_by-requires : goal.agrees_by-requires
 agrees_by-requires c = (
-  search rules,
-  search rules,
   search rules,
   search rules,
   search rules,
@@ -32,10 +21,10 @@ agrees_by-requires c = (
 )
 
 pub loop-m-preserved : goal.loop-m-preserved
-loop-m-preserved c = (search rules, search (rules, leading_more), search rules, search (rules, agreed_more), search rules, search rules, search rules, search rules)
+loop-m-preserved c = (search (rules, leading_more), search rules, search (rules, agreed_more), search rules, search rules)
 
-pub returns-else-agrees_by : goal.returns-else-agrees_by
-returns-else-agrees_by c = search (rules, leading_stop)
+pub returns-then-not-agrees_by : goal.returns-then-not-agrees_by
+returns-then-not-agrees_by c = (search (rules, leading_stop), search rules)
 
 pub returns : goal.returns
-returns c = search (rules, leading_end)
+returns c = (search (rules, leading_end), search rules)

@@ -7,9 +7,5 @@ use Rattle.judging.proofs.members.agreeing.Given as goal
 
 abbrev pub invariant-loop-m : goal.invariant-loop-m
 invariant-loop-m l =
-    (l.m ≤ l.n) × (leading (agrees_at (table_said l.list l.header)) l.n 1 ≡ l.m + leading (agrees_at (table_said l.list l.header)) (l.n - l.m) (l.m + 1))
+    (leading (agrees_at (table_said l.list l.header)) l.n 1 ≡ l.m + leading (agrees_at (table_said l.list l.header)) (l.n - l.m) (l.m + 1))
     × Remembers (table_said l.list l.header) l.slots (l.m + 1) × Agreed (table_said l.list l.header) (l.m + 1) × (l.at ≡ place_of l.list l.m) × (l.at ≤ length l.list)
-    × (length l.a ≡ 512) × (length l.b ≡ 512)
-
-abbrev pub decreases-loop-m : goal.decreases-loop-m
-decreases-loop-m l = l.n - l.m

@@ -6,7 +6,7 @@ pub returns-then-set-eq0 : goal.returns-then-set-eq0
 returns-then-set-eq0 c = (search (rules, apart_agrees), search (rules, apart_kept))
 
 pub held-requires : goal.held-requires
-held-requires c = (search rules, search rules, search (rules, slots_size), search rules, search rules)
+held-requires c = (search (rules, slots_size), search rules, search rules)
 
 pub returns : goal.returns
 returns c = (search (rules, held_agrees), search (rules, held_kept))

@@ -3,14 +3,14 @@ use Rattle.table.proofs.Remembered.{find_first}
 use Rattle.judging.proofs.Slots.{reached, search_more, search_here}
 use Rattle.judging.proofs.members.find.Goals as goal
 
-pub loop-k-init : goal.loop-k-init
-loop-k-init c = (search (rules, find_first), search rules)
+pub loop-hash-init : goal.loop-hash-init
+loop-hash-init c = search (rules, find_first)
 
 pub stops-requires : goal.stops-requires
-stops-requires c = (search rules, search rules, search rules, search rules, search (rules, reached))
+stops-requires c = (search rules, search (rules, reached))
 
 pub returns-then-stops : goal.returns-then-stops
 returns-then-stops c = search (rules, search_here)
 
-pub loop-k-preserved : goal.loop-k-preserved
-loop-k-preserved c = (search (rules, search_more), search rules)
+pub loop-hash-preserved : goal.loop-hash-preserved
+loop-hash-preserved c = search (rules, search_more)

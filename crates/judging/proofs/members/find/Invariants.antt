@@ -1,10 +1,10 @@
-use Rattle.octets.specs.Standard.{◌-◌, ◌≡◌, length}
+use Rattle.octets.specs.Standard.{◌-◌}
 use Rattle.table.specs.Remembered.{SlotsPassed}
 use Rattle.importing.specs.Said.{table_said}
 use Rattle.judging.proofs.members.find.Given as goal
 
-abbrev pub invariant-loop-k : goal.invariant-loop-k
-invariant-loop-k l = SlotsPassed (table_said l.list l.header) l.slots l.hash l.k l.i × (length l.a ≡ 512)
+abbrev pub invariant-loop-hash : goal.invariant-loop-hash
+invariant-loop-hash l = SlotsPassed (table_said l.list l.header) l.slots l.hash l.k l.i
 
-abbrev pub decreases-loop-k : goal.decreases-loop-k
-decreases-loop-k l = 4608 - l.i
+abbrev pub decreases-loop-hash : goal.decreases-loop-hash
+decreases-loop-hash l = 4608 - l.i

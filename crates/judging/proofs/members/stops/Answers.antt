@@ -6,7 +6,7 @@ pub returns-then-word-eq0 : goal.returns-then-word-eq0
 returns-then-word-eq0 c = (search (rules, by_empty), search (rules, read_empty))
 
 pub again-requires : goal.again-requires
-again-requires c = (search rules, search rules, search (rules, reach_least), search rules, search rules, search rules)
+again-requires c = (search (rules, reach_least), search rules, search rules, search rules)
 
 pub returns-then-word-tag : goal.returns-then-word-tag
 returns-then-word-tag c = (search (rules, by_same), search (rules, read_same))

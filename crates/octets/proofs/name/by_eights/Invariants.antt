@@ -1,10 +1,7 @@
-use Rattle.octets.specs.Standard.{◌≤◌, ◌-◌, true, ◌≡◌}
+use Rattle.octets.specs.Standard.{◌*◌, ◌≤◌, true, ◌≡◌}
 use Rattle.octets.specs.All.{all_below}
 use Rattle.octets.specs.Name.{alike_at}
 use Rattle.octets.proofs.name.by_eights.Given as goal
 
-abbrev pub invariant-loop-i : goal.invariant-loop-i
-invariant-loop-i l = (l.i ≤ l.n) × (true ≡ all_below (alike_at l.s l.t) l.i)
-
-abbrev pub decreases-loop-i : goal.decreases-loop-i
-decreases-loop-i l = l.n - l.i
+abbrev pub invariant-loop-k : goal.invariant-loop-k
+invariant-loop-k l = (l.k ≤ l.to) × (true ≡ all_below (alike_at l.s l.t) (8 * l.k))

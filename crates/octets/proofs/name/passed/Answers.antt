@@ -1,6 +1,6 @@
 use Rattle.octets.specs.Standard.{rules}
-use Rattle.octets.proofs.Names.{same_more}
+use Rattle.octets.proofs.Eights.{eights_passed}
 use Rattle.octets.proofs.name.passed.Goals as goal
 
-pub loop-i-preserved : goal.loop-i-preserved
-loop-i-preserved c = (search rules, search rules, search (rules, same_more))
+pub loop-k-preserved : goal.loop-k-preserved
+loop-k-preserved c = (search rules, search (rules, eights_passed))

@@ -1,10 +1,10 @@
-use Rattle.octets.specs.Standard.{◌≤◌, ◌-◌, ◌%◌, true, ◌≡◌}
+use Rattle.octets.specs.Standard.{◌*◌, ◌-◌, ◌≤◌, true, ◌≡◌}
 use Rattle.octets.specs.All.{all_below}
 use Rattle.octets.specs.Name.{alike_at}
 use Rattle.octets.proofs.name.passed.Given as goal
 
-abbrev pub invariant-loop-i : goal.invariant-loop-i
-invariant-loop-i l = (l.i ≤ l.n) × (l.i % 8 ≡ l.from % 8) × (true ≡ all_below (alike_at l.s l.t) l.i)
+abbrev pub invariant-loop-k : goal.invariant-loop-k
+invariant-loop-k l = (l.k ≤ l.to) × (true ≡ all_below (alike_at l.s l.t) (8 * l.k))
 
-abbrev pub decreases-loop-i : goal.decreases-loop-i
-decreases-loop-i l = l.n - l.i
+abbrev pub decreases-loop-k : goal.decreases-loop-k
+decreases-loop-k l = l.to - l.k

@@ -1,13 +1,6 @@
-use Rattle.octets.specs.Standard.{length-set, arith, rules}
-use Rattle.octets.specs.Number.{put_be24}
+use Rattle.octets.proofs.Numbers.{put24_mid}
+use Rattle.octets.specs.Standard.{rules, ◌∙◌}
 use Rattle.octets.proofs.number.put_be24.Goals as goal
 
-pub bounds-s-at-2 : goal.bounds-s-at-2
-bounds-s-at-2 c = simp length-set (omega arith)
-
-pub bounds-s-at-3 : goal.bounds-s-at-3
-bounds-s-at-3 c = simp length-set (omega arith)
-
 pub returns : goal.returns
-unfolding put_be24
-returns c = search rules
+returns c = put24_mid _ _ _ c.requires (c.copy_from_slice.ensures.after ∙ search rules)

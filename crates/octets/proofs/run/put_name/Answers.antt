@@ -1,6 +1,6 @@
+use Rattle.octets.specs.Standard.{refl}
 use Rattle.octets.proofs.Runs.{name_whole}
-use Rattle.octets.specs.Standard.{rules}
 use Rattle.octets.proofs.run.put_name.Goals as goal
 
 pub returns : goal.returns
-returns c = search (rules, name_whole)
+returns c = name_whole _ _ _ _ _ c.requires.0 c.requires.1 c.copy_from_slice.ensures.after (c.fill.ensures.after (λ y e. e)) refl

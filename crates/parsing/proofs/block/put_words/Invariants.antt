@@ -1,11 +1,7 @@
-use Rattle.octets.specs.Standard.{◌*◌, ◌-◌, ◌≤◌, ◌≡◌, length, drop}
+use Rattle.octets.specs.Standard.{◌*◌, drop}
 use Rattle.octets.proofs.Writes.{Going}
 use Rattle.rows.specs.Block.{words_bytes}
 use Rattle.parsing.proofs.block.put_words.Given as goal
 
 abbrev pub invariant-loop-i : goal.invariant-loop-i
-invariant-loop-i l = (l.i ≤ length l.ws) × (l.i-end ≡ length l.ws) × (length l.out ≡ length l.initial.out)
-    × Going l.initial.out l.out (4 * l.i) (words_bytes (drop l.i l.ws)) (words_bytes l.ws)
-
-abbrev pub decreases-loop-i : goal.decreases-loop-i
-decreases-loop-i l = length l.ws - l.i
+invariant-loop-i l = Going l.initial.out l.out (4 * l.i) (words_bytes (drop l.i l.ws)) (words_bytes l.ws)

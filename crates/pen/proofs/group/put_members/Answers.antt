@@ -3,4 +3,4 @@ use Rattle.octets.specs.Standard.{rules}
 use Rattle.pen.proofs.group.put_members.Goals as goal
 
 pub returns : goal.returns
-returns c = search (rules, wrote_capabilities)
+returns c = (search rules, search (rules, wrote_capabilities))

@@ -5,13 +5,13 @@ use Rattle.octets.specs.Standard.{rules}
 use Rattle.plain_assignment.proofs.effects.settle_owned.Goals as goal
 
 pub loop-i-init : goal.loop-i-init
-loop-i-init c = (search (rules, sound_few), search rules, search (rules, sound_size), search (rules, sound_size), search (rules, own_start))
+loop-i-init c = (search (rules, sound_few), search (rules, sound_size), search (rules, sound_size), search (rules, own_start))
 
 pub change_if-requires : goal.change_if-requires
 change_if-requires c = (search rules, search (rules, change_fits))
 
 pub loop-i-preserved : goal.loop-i-preserved
-loop-i-preserved c = (search rules, search rules, search rules, search rules, search (rules, own_turn))
+loop-i-preserved c = (search rules, search rules, search rules, search (rules, own_turn))
 
 pub returns : goal.returns
 returns c = search (rules, own_end)

@@ -1,12 +1,13 @@
-use Rattle.octets.specs.Standard.{rules}
-use Rattle.octets.proofs.All.{all_none, all_more, all_end}
+use Rattle.octets.specs.Standard.{rules, le-leb, lt-leb}
+use Rattle.std.proofs.iter.runs.Sources.{ranges}
+use Rattle.record.specs.Networks.{new_place}
+use Rattle.plain_table.proofs.Comparing.{all_is}
 use Rattle.plain_table.proofs.header.new_place.Goals as goal
 
-pub loop-i-init : goal.loop-i-init
-loop-i-init c = search (rules, all_none)
+pub returns-then-n-j : goal.returns-then-n-j
+unfolding new_place
+returns-then-n-j c = rw (le-leb _ _ c.if-n-j.true)
 
-pub loop-i-preserved : goal.loop-i-preserved
-loop-i-preserved c = search (rules, all_more)
-
-pub returns : goal.returns
-returns c = search (rules, all_end)
+pub returns-else-n-j : goal.returns-else-n-j
+unfolding new_place
+returns-else-n-j c = rw (lt-leb _ _ c.if-n-j.false) (all_is _ _ (search (rules, ranges)))

@@ -1,12 +1,7 @@
-use Rattle.octets.proofs.All.{all_none, all_more, all_end}
 use Rattle.octets.specs.Standard.{rules}
+use Rattle.std.proofs.iter.runs.Sources.{ranges}
+use Rattle.plain_table.proofs.Comparing.{all_is}
 use Rattle.plain_table.proofs.header.places_sound.Goals as goal
 
-pub loop-i-init : goal.loop-i-init
-loop-i-init c = search (rules, all_none)
-
-pub loop-i-preserved : goal.loop-i-preserved
-loop-i-preserved c = search (rules, all_more)
-
 pub returns : goal.returns
-returns c = search (rules, all_end)
+returns c = all_is _ 8 (search (rules, ranges))

@@ -1,5 +1,5 @@
 use Rattle.lookup.proofs.Among.{public_among}
-use Rattle.questions.proofs.Questions.{located, found_room}
+use Rattle.questions.proofs.Questions.{found_room}
 use Rattle.octets.specs.Standard.{rules}
 use Rattle.questions.proofs.location.locate.Goals as goal
 
@@ -8,6 +8,3 @@ block-requires c = search (rules, found_room)
 
 pub seek-requires : goal.seek-requires
 seek-requires c = search (rules, public_among)
-
-pub returns : goal.returns
-returns c = search (rules, located)

@@ -1,4 +1,4 @@
-use Rattle.reading.proofs.Members.{vendor_member, list_member, bits_member, no_fourth}
+use Rattle.reading.proofs.Members.{vendor_member, list_member, bits_member}
 use Rattle.octets.specs.Standard.{rules}
 use Rattle.reading.proofs.group.feature_member.Goals as goal
 
@@ -8,8 +8,5 @@ returns-in-0 c = search (rules, vendor_member)
 pub returns-in-1 : goal.returns-in-1
 returns-in-1 c = search (rules, list_member)
 
-pub returns-in-2 : goal.returns-in-2
-returns-in-2 c = search (rules, bits_member)
-
 pub returns-in_default : goal.returns-in_default
-returns-in_default c = search (rules, no_fourth)
+returns-in_default c = search (rules, bits_member)

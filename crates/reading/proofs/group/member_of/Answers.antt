@@ -1,4 +1,4 @@
-use Rattle.reading.proofs.Members.{member_application, member_item, member_feature, member_identity}
+use Rattle.reading.proofs.Members.{low_application, low_feature, member_application, member_item, member_feature, member_identity}
 use Rattle.octets.specs.Standard.{rules}
 use Rattle.reading.proofs.group.member_of.Goals as goal
 
@@ -13,3 +13,9 @@ returns-in-SupportedFeatures c = search (rules, member_feature)
 
 pub returns-in-UserIdentity : goal.returns-in-UserIdentity
 returns-in-UserIdentity c = search (rules, member_identity)
+
+pub application_member-requires : goal.application_member-requires
+application_member-requires c = search (rules, low_application)
+
+pub feature_member-requires : goal.feature_member-requires
+feature_member-requires c = search (rules, low_feature)

@@ -1,4 +1,4 @@
-use Rattle.reading.proofs.Members.{size_application, size_item, size_feature, size_identity}
+use Rattle.reading.proofs.Members.{size_application, size_sole, size_feature}
 use Rattle.octets.specs.Standard.{rules}
 use Rattle.reading.proofs.group.size_of.Goals as goal
 
@@ -6,10 +6,7 @@ pub returns-in-Application : goal.returns-in-Application
 returns-in-Application c = search (rules, size_application)
 
 pub returns-in-AuthDataItem : goal.returns-in-AuthDataItem
-returns-in-AuthDataItem c = search (rules, size_item)
+returns-in-AuthDataItem c = search (rules, size_sole)
 
 pub returns-in-SupportedFeatures : goal.returns-in-SupportedFeatures
 returns-in-SupportedFeatures c = search (rules, size_feature)
-
-pub returns-in-UserIdentity : goal.returns-in-UserIdentity
-returns-in-UserIdentity c = search (rules, size_identity)

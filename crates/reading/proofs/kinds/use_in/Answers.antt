@@ -5,14 +5,14 @@ use Rattle.reading.proofs.kinds.use_in.Goals as goal
 pub returns-then-terms-eq-SH : goal.returns-then-terms-eq-SH
 returns-then-terms-eq-SH c = search (rules, in_udr)
 
-pub returns-then-d-eq-UAR : goal.returns-then-d-eq-UAR
-returns-then-d-eq-UAR c = search (rules, in_uar)
+pub returns-in-300 : goal.returns-in-300
+returns-in-300 c = search (rules, in_uar)
 
-pub returns-then-d-eq-SAR : goal.returns-then-d-eq-SAR
-returns-then-d-eq-SAR c = search (rules, in_sar)
+pub returns-in-301 : goal.returns-in-301
+returns-in-301 c = search (rules, in_sar)
 
-pub returns-then-d-eq-LIR : goal.returns-then-d-eq-LIR
-returns-then-d-eq-LIR c = search (rules, in_lir)
+pub returns-in-302 : goal.returns-in-302
+returns-in-302 c = search (rules, in_lir)
 
-pub returns : goal.returns
-returns c = search (rules, in_mar)
+pub returns-in_default : goal.returns-in_default
+returns-in_default c = search (rules, in_mar)

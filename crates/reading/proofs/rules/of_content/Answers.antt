@@ -1,9 +1,8 @@
 use Rattle.reading.proofs.Judging.{content_bad, content_good}
-use Rattle.octets.specs.Standard.{rules}
 use Rattle.reading.proofs.rules.of_content.Goals as goal
 
-pub returns-then-fault-ne0 : goal.returns-then-fault-ne0
-returns-then-fault-ne0 c = search (rules, content_bad)
+pub returns-in-Ok : goal.returns-in-Ok
+returns-in-Ok c = content_good _ _ c.in-Ok.is
 
-pub returns : goal.returns
-returns c = search (rules, content_good)
+pub returns-in-Err : goal.returns-in-Err
+returns-in-Err c = content_bad _ _ c.in-Err.is

@@ -1,4 +1,4 @@
-use Rattle.reading.proofs.Judging.{rule_reserved, rule_unknown, rule_unnamed, rule_needed, rule_optional, rule_repeated, rule_several}
+use Rattle.reading.proofs.Judging.{rule_reserved, rule_unknown, rule_unnamed, rule_needed, rule_repeated}
 use Rattle.octets.specs.Standard.{rules}
 use Rattle.reading.proofs.rules.rule_by.Goals as goal
 
@@ -12,13 +12,7 @@ pub returns-in-Unnamed : goal.returns-in-Unnamed
 returns-in-Unnamed c = search (rules, rule_unnamed)
 
 pub returns-in-Needed : goal.returns-in-Needed
-returns-in-Needed c = search (rules, rule_needed)
-
-pub returns-in-Optional : goal.returns-in-Optional
-returns-in-Optional c = search (rules, rule_optional)
+returns-in-Needed c = λ n f. rule_needed _ _ _ n c.if-flags-ne0.false _ c.in-Needed.is (c.of_once.ensures n f)
 
 pub returns-in-Repeated : goal.returns-in-Repeated
-returns-in-Repeated c = search (rules, rule_repeated)
-
-pub returns-in-Several : goal.returns-in-Several
-returns-in-Several c = search (rules, rule_several)
+returns-in-Repeated c = λ n f. rule_repeated _ _ _ n c.if-flags-ne0.false _ c.in-Repeated.is (c.of_content.ensures n f)

@@ -1,6 +1,6 @@
-use Rattle.record.specs.Networks.{other_place}
+use Rattle.octets.specs.Standard.{rules}
+use Rattle.record.proofs.Places.{places_other}
 use Rattle.record.proofs.networks.other.Goals as goal
 
 pub returns : goal.returns
-unfolding other_place
-returns c = cc
+returns c = search (rules, places_other)

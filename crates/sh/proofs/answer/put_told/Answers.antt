@@ -8,8 +8,8 @@ block-requires c = search (rules, block_room)
 pub put_record-requires : goal.put_record-requires
 put_record-requires c = search (rules, told_room)
 
-pub returns-then-k-gt0 : goal.returns-then-k-gt0
-returns-then-k-gt0 c = search (rules, wrote_told)
+pub returns-in-Ok : goal.returns-in-Ok
+returns-in-Ok c = search (rules, wrote_told)
 
-pub returns : goal.returns
-returns c = search (rules, wrote_untold)
+pub returns-in-Err : goal.returns-in-Err
+returns-in-Err c = search (rules, wrote_untold)

@@ -9,8 +9,8 @@ loop-m-init c = search (rules, leading_all, remember_none, agreed_none)
 pub loop-m-preserved : goal.loop-m-preserved
 loop-m-preserved c = search (rules, leading_more, agreed_more)
 
-pub returns-else-agrees_by : goal.returns-else-agrees_by
-returns-else-agrees_by c = search (rules, leading_stop)
+pub returns-then-not-agrees_by : goal.returns-then-not-agrees_by
+returns-then-not-agrees_by c = search (rules, leading_stop)
 
 pub returns : goal.returns
 returns c = search (rules, leading_end)

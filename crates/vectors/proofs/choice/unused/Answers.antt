@@ -5,5 +5,5 @@ use Rattle.vectors.proofs.choice.unused.Goals as goal
 pub returns-then-b-eq0 : goal.returns-then-b-eq0
 returns-then-b-eq0 c = search (rules, unused_named)
 
-pub returns : goal.returns
-returns c = search (rules, used_not)
+pub returns-else-b-eq0 : goal.returns-else-b-eq0
+returns-else-b-eq0 c = search (rules, used_not)

@@ -9,8 +9,8 @@ loop-k-init c = search (rules, turn_all)
 pub loop-k-preserved : goal.loop-k-preserved
 loop-k-preserved c = search (rules, first_more, turn_near)
 
-pub returns-else-piece_sound : goal.returns-else-piece_sound
-returns-else-piece_sound c = search (rules, first_bad_lem)
+pub returns-then-not-piece_sound : goal.returns-then-not-piece_sound
+returns-then-not-piece_sound c = search (rules, first_bad_lem)
 
 pub returns : goal.returns
 returns c = search (rules, first_none)

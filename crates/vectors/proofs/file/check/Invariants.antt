@@ -5,7 +5,4 @@ use Rattle.vectors.specs.VectorFile.{sound_piece, check_vectors}
 use Rattle.vectors.proofs.file.check.Given as goal
 
 abbrev pub invariant-loop-k : goal.invariant-loop-k
-invariant-loop-k l = (l.k ≤ l.n) × (l.k ≤ 4096) × (check_vectors l.v ≡ first_bad (sound_piece l.v) l.n (l.n - l.k) l.k) × Mask l.mask
-
-abbrev pub decreases-loop-k : goal.decreases-loop-k
-decreases-loop-k l = l.n - l.k
+invariant-loop-k l = (l.k ≤ 4096) × (check_vectors l.v ≡ first_bad (sound_piece l.v) l.n (l.n - l.k) l.k) × Mask l.mask

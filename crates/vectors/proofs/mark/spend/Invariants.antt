@@ -1,9 +1,6 @@
-use Rattle.octets.specs.Standard.{◌-◌, ◌≤◌}
+use Rattle.vectors.specs.Chosen.{sent_of}
 use Rattle.vectors.proofs.Marks.{Spending}
 use Rattle.vectors.proofs.mark.spend.Given as goal
 
-abbrev pub invariant-loop-i : goal.invariant-loop-i
-invariant-loop-i l = (l.i ≤ l.n) × Spending l.initial.v l.v l.blocks l.i
-
-abbrev pub decreases-loop-i : goal.decreases-loop-i
-decreases-loop-i l = l.n - l.i
+abbrev pub invariant-loop-k : goal.invariant-loop-k
+invariant-loop-k l = Spending l.initial.v l.v (sent_of l.fn.sent) l.k-index

@@ -1,6 +1,0 @@
-use Rattle.assignment.proofs.Looks.{owned_all}
-use Rattle.octets.specs.Standard.{rules}
-use Rattle.assignment.proofs.owned.owned.Goals as goal
-
-pub returns : goal.returns
-returns c = search (rules, owned_all)

@@ -1,6 +1,0 @@
-use Rattle.pen.proofs.Writers.{wrote_plain_head}
-use Rattle.octets.specs.Standard.{rules}
-use Rattle.pen.proofs.put_plain_head.Goals as goal
-
-pub returns : goal.returns
-returns c = search (rules, wrote_plain_head)

@@ -1,6 +1,0 @@
-use Rattle.deciding.proofs.Deciding.{mar_planned}
-use Rattle.octets.specs.Standard.{rules}
-use Rattle.plain_deciding.proofs.plan_mar.Goals as goal
-
-pub returns : goal.returns
-returns c = search (rules, mar_planned)

@@ -1,6 +1,0 @@
-use Rattle.questions.specs.Location.{sought_at}
-use Rattle.questions.proofs.location.seek_record.Goals as goal
-
-pub returns : goal.returns
-unfolding sought_at
-returns c = cc

@@ -1,6 +1,0 @@
-use Rattle.octets.specs.Standard.{refl}
-use Rattle.octets.proofs.Writes.{over_sets}
-use Rattle.quoting.proofs.put_twice.Goals as goal
-
-pub returns : goal.returns
-returns c = record { count = refl; bytes = over_sets _ _ c.requires }

@@ -1,0 +1,4 @@
+use Rattle.record.proofs.header.Header.is_header.Goals as goal
+
+pub returns : goal.returns
+returns c = cc

@@ -1,4 +1,0 @@
-use Rattle.record.proofs.subscriber.server_sound.Goals as goal
-
-pub returns : goal.returns
-returns c = cc

@@ -1,6 +1,0 @@
-use Rattle.vectors.proofs.Choosing.{also_is}
-use Rattle.octets.specs.Standard.{rules}
-use Rattle.vectors.proofs.choice.also.Goals as goal
-
-pub returns : goal.returns
-returns c = search (rules, also_is)
