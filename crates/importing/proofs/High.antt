@@ -1,41 +1,28 @@
 -- Names that begin with the greatest byte 126 times, and how many stand above each of them; above every other there are enough.
-use Rattle.octets.specs.Standard.{ℕ, zero, suc, ◌+◌, ◌-◌, ◌*◌, ◌<◌, ◌≤◌, Bool, true, false, ◌&&◌, true≢false, ◌≡◌, refl, sym, ◌∙◌, ap, arith, add-one}
-use Rattle.octets.specs.Standard.{eqb, leb, eqb-true, eqb-false, eq-eqb, ne_eqb, le-leb, ltb, ltb-true, ltb-false, List, [], ◌∷◌, length, drop, get_or}
-use Rattle.octets.specs.Standard.{drop-cons, drop_of_length-le, get_or-eq_default}
+use Rattle.octets.specs.Standard.{ℕ, zero, suc, ◌+◌, ◌-◌, ◌*◌, ◌<◌, ◌≤◌, Bool, true, false, ◌&&◌, true≢false, ◌≡◌, refl, sym, ◌∙◌, ap, arith}
+use Rattle.octets.specs.Standard.{eqb, leb, eqb-true, eqb-false, eq-eqb, ne_eqb, le-leb, List, [], ◌∷◌, length, drop, get_or}
+use Rattle.octets.specs.Standard.{drop-cons, drop_of_length-le, take, replicate}
+use Rattle.std.specs.List.{starts_with}
+use Rattle.std.specs.Cmp.Lexicographic.{pointwise}
 use native.Mathlib.Nat.{mul-le-mul_right}
 use Rattle.octets.proofs.All.{and_left, and_right}
 use Rattle.quoting.specs.Quoted.{listable}
 use Rattle.importing.specs.Above.{strings_of, above, tildes}
 use Rattle.importing.proofs.Falling.{least, others}
 
--- The turns of the loop over the first bytes.
-module _ (s : List ℕ) where
-  module _ (i b : ℕ) (left : tildes 126 s ≡ tildes (126 - i) (drop i s)) (h : i < 126) (e : b ≡ get_or s i 0) where
-    pub tilde_more : b ≡ 126 → tildes 126 s ≡ tildes (126 - (i + 1)) (drop (i + 1) s)
-    unfolding tildes
-    tilde_more f =
-        let d : 126 - i ≡ suc (126 - (i + 1)) = omega arith in
-        let q : get_or s i 0 ≡ 126 = sym e ∙ f in
-        let l : i < length s = within (ltb i (length s)) refl q in
-        left ∙ rw (d, drop-cons s i 0 l, eq-eqb (get_or s i 0) 126 q, add-one i)
-      where
-        within : (x : Bool) → ltb i (length s) ≡ x → get_or s i 0 ≡ 126 → i < length s
-        within true g q = ltb-true _ _ g
-        within false g q = let z : get_or s i 0 ≡ 0 = get_or-eq_default s 0 (ltb-false i (length s) g) in absurd (omega arith)
+-- The first bytes are those of so many `~`.
+tildes_first : (n : ℕ) (s : List ℕ) → pointwise eqb (replicate n 126) (take n s) ≡ tildes n s
+unfolding tildes
+tildes_first zero s = refl
+tildes_first (suc n) [] = refl
+tildes_first (suc n) (x ∷ s) = rw (turned (eqb x 126) refl, tildes_first n s) refl
+  where
+    turned : (c : Bool) → eqb x 126 ≡ c → eqb 126 x ≡ eqb x 126
+    turned true e = let q : x ≡ 126 = eqb-true x 126 e in eq-eqb 126 x (sym q) ∙ sym e
+    turned false e = ne_eqb 126 x (λ q. eqb-false x 126 e (sym q)) ∙ sym e
 
-    pub tilde_stop : (b ≡ 126 → ⊥) → false ≡ tildes 126 s
-    unfolding tildes
-    tilde_stop f =
-        let d : 126 - i ≡ suc (126 - (i + 1)) = omega arith in
-        sym (left ∙ rw d (go (ltb i (length s)) refl))
-      where
-        go : (x : Bool) → ltb i (length s) ≡ x → tildes (suc (126 - (i + 1))) (drop i s) ≡ false
-        go true g = rw (drop-cons s i 0 (ltb-true _ _ g), ← e, ne_eqb b 126 f)
-        go false g = rw (drop_of_length-le s {i = i} (ltb-false _ _ g))
-
-  pub tilde_end : (i : ℕ) → tildes 126 s ≡ tildes (126 - i) (drop i s) → 126 ≤ i → true ≡ tildes 126 s
-  unfolding tildes
-  tilde_end i left h = let d : 126 - i ≡ 0 = omega arith in sym (left ∙ rw d)
+pub tildes_start : (s : List ℕ) → starts_with eqb s (replicate 126 126) ≡ tildes 126 s
+tildes_start s = tildes_first 126 s
 
 -- A byte of a name that can be listed.
 listed_most : (s : List ℕ) (i : ℕ) → listable s ≡ true → i < length s → get_or s i 0 ≤ 126

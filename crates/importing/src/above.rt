@@ -14,12 +14,7 @@ const HIGH: usize = 126;
 fn tildes(name: &[u8]) -> bool
     ensures { result ≡ tildes 126 name.now }
 {
-    for i in 0..HIGH {
-        if octets::byte_or_zero(name, i) != TILDE {
-            return false;
-        }
-    }
-    true
+    name.starts_with(&[TILDE; HIGH])
 }
 
 // How far the byte at a place is from the greatest.

@@ -71,11 +71,13 @@ module _ (a b : List ℕ) (k : ℕ) where
     pub follows_less : o ≡ Less → true ≡ follows a b k
     follows_less f = rw (order_is, f)
 
-    pub follows_equal : o ≡ Equal → false ≡ follows a b k
-    follows_equal f = rw (order_is, f)
-
-    pub follows_greater : o ≡ Greater → false ≡ follows a b k
-    follows_greater f = rw (order_is, f)
+    pub follows_other : (o ≡ Less → ⊥) → false ≡ follows a b k
+    follows_other f = go o refl
+      where
+        go : (c : Ordering) → o ≡ c → false ≡ follows a b k
+        go Less e = absurd (f e)
+        go Equal e = rw (order_is, e)
+        go Greater e = rw (order_is, e)
 
 -- A sound record's name is within its limits.
 pub name_within : (b : List ℕ) (h : Header) (file k : ℕ) {x : Bool} {s : List ℕ} → x ≡ sound_record b k h file → x ≡ true → s ≡ public_of b → length s ≤ 128

@@ -16,7 +16,7 @@ use record::header::Header;
 fn titled(list: &[u8]) -> bool
     ensures { result ≡ is_titled list.now }
 {
-    let to = name::smaller(saying::FIRST, list.len());
+    let to = saying::FIRST.min(list.len());
     name::same(
         &list[0..to],
         b"public,private,server,state,pending,barred,services,roaming,mandatory,m1,m2,m3,m4,optional,o1,o2,o3,o4,start,length,set\r\n",

@@ -17,11 +17,10 @@ fn follows(a: &[u8; 512], b: &[u8; 512], k: usize) -> bool
     if k <= 1 {
         return true;
     }
-    match name::order_of(fields::public(a), fields::public(b)) {
-        Ordering::Less => true,
-        Ordering::Equal => false,
-        Ordering::Greater => false,
-    }
+    matches!(
+        name::order_of(fields::public(a), fields::public(b)),
+        Ordering::Less
+    )
 }
 
 // Whether a block that a line says can stand as record k, behind another.

@@ -56,7 +56,7 @@ fn first_unlisted(t: &[u8], count: usize) -> Checked
     requires { (count ≤ 4096) × (length t.now ≡ 512 * (count + 1)) }
     ensures { result ≡ first_unlisted t.now count }
 {
-    for k in 1..count + 1 {
+    for k in 1..=count {
         if !listable_at(t, k) {
             return Err(k as u32);
         }

@@ -295,6 +295,7 @@ pub fn answer_fine(
 {
     let ground = h.ground;
     if ground.wanted.beyond {
+        // Written out: what makes a `Verdict` in crate reading is for base results.
         let fault = Verdict {
             result: Outcome::Experimental(experimental::FEATURE_UNSUPPORTED),
             place: 0,

@@ -1,7 +1,7 @@
 -- Each look-up as the scan that it is, and the scan of the visited networks.
-use Rattle.std.specs.Prelude.{Option, Some, None}
+use Rattle.std.specs.Prelude.{Option, Some, None, MatchOption}
 use Rattle.std.specs.Option.{is_some, is_none}
-use Rattle.octets.specs.Standard.{ℕ, suc, ◌+◌, ◌-◌, ◌<◌, ◌≤◌, ◌/◌, ◌%◌, ◌^◌, Bool, true, false, ◌&&◌, not, ◌≡◌, refl, sym, ◌∙◌, List, arith, add-one, eqb}
+use Rattle.octets.specs.Standard.{ℕ, zero, suc, ◌+◌, ◌-◌, ◌<◌, ◌≤◌, ◌/◌, ◌%◌, ◌^◌, Bool, true, false, ◌&&◌, not, ◌≡◌, refl, sym, ◌∙◌, List, arith, eqb}
 use Rattle.octets.specs.Standard.{lt-ltb, le-ltb}
 use Rattle.octets.specs.Standard.{get_or, take, drop}
 use Rattle.octets.specs.Name.{same}
@@ -51,26 +51,32 @@ networks_few t count s e f = rw f (sound_networks_lem t count s e)
 pub networks_are : (t : List ℕ) {h : List ℕ} {n : ℕ} → h ≡ block_of t 0 → n ≡ networks_of h → n ≡ networks_of (block_of t 0)
 networks_are t e f = rw (← e) f
 
-pub seek_start : (b name : List ℕ) (n : ℕ) → n ≡ networks_of b → network_number b (networks_of b) name ≡ seek (network_is b name) (n - 0) 0
-unfolding network_number
-seek_start b name n e = let m : n - 0 ≡ n = omega arith in rw (m, e)
-
-module _ (b name : List ℕ) (n i : ℕ) {whole : ℕ} {s : List ℕ} {x : Bool} (left : whole ≡ seek (network_is b name) (n - i) i) (more : i < n)
-    (es : s ≡ network_of b i) (ex : x ≡ same s name) where
-  is_here : x ≡ network_is b name i
-  unfolding network_is
-  is_here = rw (← es) ex
-
-  pub seek_here : x ≡ true → i ≡ whole
+-- The first network that has the name, by the search for it. A number shows as a place in a list: there the library's laws of ranges take it.
+module _ (b name : List ℕ) (n : ℕ) (few : n ≤ 8) (is : n ≡ networks_of b) where
+  seek_turn : (k : ℕ) → k < n → network_is b name k ≡ false → seek (network_is b name) (n - k) k ≡ seek (network_is b name) (n - suc k) (suc k)
   unfolding seek
-  seek_here f = let m : n - i ≡ suc (n - (i + 1)) = omega arith in let q : network_is b name i ≡ true = sym is_here ∙ f in rw (left, m, q)
+  seek_turn k h q = let e : n - k ≡ suc (n - suc k) = omega arith in rw (e, q)
 
-  pub seek_next : x ≡ false → whole ≡ seek (network_is b name) (n - (i + 1)) (i + 1)
-  unfolding seek
-  seek_next f =
-      let m : n - i ≡ suc (n - (i + 1)) = omega arith in
-      let q : network_is b name i ≡ false = sym is_here ∙ f in
-      rw (left, m, q, add-one i)
+  seek_down : (k : ℕ) → k ≤ n → ((j : ℕ) → j < k → network_is b name j ≡ false)
+      → network_number b n name ≡ seek (network_is b name) (n - k) k
+  unfolding network_number
+  seek_down zero h f = let m : n - 0 ≡ n = omega arith in rw m refl
+  seek_down (suc k) h f = seek_down k (omega arith) (λ j l. f j (omega arith)) ∙ seek_turn k (omega arith) (f k (omega arith))
+
+  pub network_found : (r : Option ℕ)
+      → (r ≡ None → (j : ℕ) → get_or name j 0 ≡ get_or name j 0 → j < n → same (network_of b j) name ≡ false)
+      → ((k : ℕ) → r ≡ Some k → (k < n) × (same (network_of b k) name ≡ true)
+      × ((j : ℕ) → get_or name j 0 ≡ get_or name j 0 → j < k → same (network_of b j) name ≡ false))
+      → MatchOption r (network_number b (networks_of b) name ≡ networks_of b)
+      (λ i. (i ≡ network_number b (networks_of b) name) × (i < networks_of b) × (i < 8))
+  unfolding network_is seek
+  network_found None f g =
+      let m : n - n ≡ 0 = omega arith in
+      rw (← is) (seek_down n (omega arith) (λ j l. f refl j refl l) ∙ rw m)
+  network_found (Some k) f g =
+      let h = g k refl in
+      let m : n - k ≡ suc (n - (k + 1)) = omega (arith, h.0) in
+      rw (← is) (sym (seek_down k (omega (arith, h.0)) (λ j l. h.2 j refl l) ∙ rw (m, h.1)), h.0, omega (arith, h.0))
 
 -- A record's bit for a network that has the name; none has it.
 module _ (t b name : List ℕ) where

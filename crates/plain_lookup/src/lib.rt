@@ -95,12 +95,8 @@ fn network(t: &[u8], count: usize, name: &[u8]) -> Option<usize>
     ensures { let n = networks_of (block_of t.now 0) in let found = network_number (block_of t.now 0) n name.now in
         MatchOption result (found ≡ n) (λ i. (i ≡ found) × (i < n) × (i < 8)) }
 {
-    for i in 0..octets::byte(block(t, 0), Header::NETWORKS_AT) {
-        if bytes::same(network_name(t, count, i), name) {
-            return Some(i);
-        }
-    }
-    None
+    let n = octets::byte(block(t, 0), Header::NETWORKS_AT);
+    (0..n).find(|&i| bytes::same(network_name(t, count, i), name))
 }
 
 // "the visited network is named in the header and its bit set"

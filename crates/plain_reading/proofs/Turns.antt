@@ -1,12 +1,12 @@
 -- From what the code has to what the definitions say: the list, one AVP of it, the loops over it.
-use Rattle.std.specs.Prelude.{Some, None, Result, Ok, Err}
+use Rattle.std.specs.Prelude.{Option, Some, None, Result, Ok, Err}
 use Rattle.octets.specs.Standard.{ℕ, zero, suc, ◌+◌, ◌-◌, ◌*◌, ◌/◌, ◌%◌, ◌≤◌, ◌<◌, add-one, ◌≡◌, refl, sym, ap, ◌∙◌, List, [], ◌∷◌, ◌++◌, map, none, some}
 use Rattle.octets.specs.Standard.{append_assoc, append-nil, Bool, true, false, cond, not, ◌&&◌, ◌||◌, arith, length, get_or, take, drop, set, take-length, eqb}
 use Rattle.octets.specs.Standard.{eqb-true, eqb-false, or-true, true≢false, drop-cons, drop_of_length-le, eq-eqb, ne_eqb, lt-ltb, le-ltb}
 use lib.Seq.{take-suc-set}
 use Rattle.octets.specs.Number.{be32_at}
 use Rattle.diameter.specs.Avp.{vendor_of}
-use Rattle.diameter.specs.AvpAt.{part_at}
+use Rattle.diameter.specs.AvpAt.{part_at, present}
 use Rattle.diameter.specs.Reader.{read_of, own_of, Here}
 use Rattle.diameter.specs.Walk.{walk}
 use Rattle.diameter.specs.declared.Avp.{Avp}
@@ -15,14 +15,15 @@ use Rattle.reading.specs.declared.Dialect.{Dialect}
 use Rattle.reading.specs.declared.Kind.{Kind}
 use Rattle.reading.specs.declared.Use.{Use}
 use Rattle.reading.specs.declared.Verdict.{Verdict}
-use Rattle.reading.specs.Kinds.{kinds, known, kind_from, kind_by, kind_of, row_of, use_in, is_unknown, session_id}
+use Rattle.reading.specs.Kinds.{kinds, known, unknown, kind_from, kind_by, kind_of, row_of, use_in, is_unknown, is_needed, session_id}
 use Rattle.reading.specs.Places.{seen_of}
 use Rattle.reading.specs.Rules.{Seen}
 use Rattle.reading.specs.Verdicts.{lack_of}
 use Rattle.reading.proofs.Judging.{seen_at}
 use Rattle.requests.specs.Found.{Headed, Missed}
 use Rattle.requests.specs.Judged.{Judged, bad, fine}
-use Rattle.requests.specs.Request.{header_fault, missing, complete}
+use Rattle.requests.specs.Request.{header_fault, missing_from, missing, complete}
+use Rattle.requests.proofs.Requests.{missing_all, missing_found, missing_more, missing_none}
 use Rattle.plain_reading.specs.declared.Broken.{Broken}
 use Rattle.plain_reading.specs.declared.Letter.{Letter}
 use Rattle.plain_reading.specs.declared.Letter.TheVariants.{A, B, C, D, F, G, H, Newer}
@@ -283,3 +284,33 @@ module _ (d : Dialect) (s list : List ℕ) where
   pub read_rest : {j : Judged} → Headed (Ok tt) (header_fault d s) → j ≡ plain_body d s list → j ≡ plain_read d s list
   unfolding plain_read
   read_rest h e = e ∙ rw h
+
+-- The first missing kind, by the search for it.
+module _ (s places : List ℕ) (d : Dialect) (sized : length places ≡ kinds) where
+  abbrev pub lacking_at : ℕ → Bool
+  lacking_at k = is_needed (use_in d (row_of k)) && not (present (part_at s (get_or places k 0)))
+
+  missing_down : (n : ℕ) → n ≤ kinds - 1 → ((j : ℕ) → 1 ≤ j → j < n + 1 → lacking_at j ≡ false)
+      → missing d (seen_of s places) ≡ missing_from d (seen_of s places) (drop (n + 1) (unknown ∷ known)) (n + 1)
+  missing_down zero h f = missing_all d (seen_of s places)
+  missing_down (suc n) h f =
+      let g : missing d (seen_of s places) ≡ missing_from d (seen_of s places) (drop (n + 1) (unknown ∷ known)) (n + 1)
+      = missing_down n (omega arith) (λ j l m. f j l (omega arith)) in
+      let e : suc n + 1 ≡ n + 1 + 1 = omega arith in
+      rw e (missing_more s places d (n + 1) _ g (omega arith) (omega arith) false (sym (f (n + 1) (omega arith) (omega arith))) refl)
+
+  pub missing_is : (r : Option ℕ)
+      → (r ≡ None → (j : ℕ) → get_or places j 0 ≡ get_or places j 0 → 1 ≤ j → j < kinds → lacking_at j ≡ false)
+      → ((k : ℕ) → r ≡ Some k → (1 ≤ k) × (k < kinds) × (lacking_at k ≡ true)
+      × ((j : ℕ) → get_or places j 0 ≡ get_or places j 0 → 1 ≤ j → j < k → lacking_at j ≡ false))
+      → Missed r (missing d (seen_of s places))
+  missing_is None f g = missing_none s places d kinds _ (missing_down (kinds - 1) (omega arith) (λ j l m. f refl j refl l m)) (omega arith)
+  missing_is (Some zero) f g = absurd (omega (arith, (g 0 refl).0))
+  missing_is (Some (suc k)) f g =
+      let h = g (suc k) refl in
+      let m : missing d (seen_of s places) ≡ missing_from d (seen_of s places) (drop (k + 1) (unknown ∷ known)) (k + 1)
+      = missing_down k (omega (arith, h.1)) (λ j l n. h.3 j refl l (omega (arith, n))) in
+      let e : suc k ≡ k + 1 = omega arith in
+      let t : true ≡ lacking_at (k + 1) = rw (← e) (sym h.2) in
+      let low : k + 1 < kinds = omega (arith, h.1) in
+      rw e (missing_found s places d (k + 1) _ m low (omega arith) true t (omega arith) refl)

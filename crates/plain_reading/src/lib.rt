@@ -182,12 +182,7 @@ fn lacks(req: &[u8], d: Dialect, k: usize, place: usize) -> bool
 fn missing(req: &[u8], d: Dialect, places: [usize; kinds::KINDS]) -> Option<usize>
     ensures { Missed result (missing d (seen_of req.now places)) }
 {
-    for k in 1..kinds::KINDS {
-        if lacks(req, d, k, places[k]) {
-            return Some(k);
-        }
-    }
-    None
+    (1..kinds::KINDS).find(|&k| lacks(req, d, k, places[k]))
 }
 
 impl<'a> Listed<'a> {

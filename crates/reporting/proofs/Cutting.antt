@@ -1,5 +1,5 @@
 -- A file of requests is cut: the first piece, and the rest of the file behind it.
-use Rattle.octets.specs.Standard.{ℕ, zero, suc, ◌≤◌, ◌<◌, List, [], ◌∷◌, Bool, true, false, cond, ◌||◌, ◌≡◌, refl, ap, ◌∙◌, arith, length, take, drop}
+use Rattle.octets.specs.Standard.{ℕ, ◌≢◌, zero, suc, ◌≤◌, ◌<◌, List, [], ◌∷◌, Bool, true, false, cond, ◌||◌, ◌≡◌, refl, ap, ◌∙◌, arith, length, take, drop}
 use Rattle.octets.specs.Standard.{length-drop, ltb, lt-ltb, le-ltb, ltb-false}
 use Rattle.octets.specs.Number.{be24_at}
 use Rattle.refusals.proofs.Passing.{neither}
@@ -88,12 +88,12 @@ past_none s h = pieces_none s (used_up s h)
 
 -- the code's tests
 module _ (s : List ℕ) where
-  pub short_none : length s < 4 → 0 ≡ first_length s
+  pub short_none : length s < 4 → first_length s ≡ 0
   unfolding first_length broken
   short_none h = rw (lt-ltb (length s) 4 h)
 
   module _ (long : 4 ≤ length s) {n : ℕ} (is : n ≡ be24_at s 1) where
-    pub other_none : (ltb n 20 || ltb (length s) n) ≡ true → 0 ≡ first_length s
+    pub other_none : (ltb n 20 || ltb (length s) n) ≡ true → first_length s ≡ 0
     unfolding first_length broken
     other_none h = rw (le_four, ← is, h)
       where
@@ -103,6 +103,9 @@ module _ (s : List ℕ) where
     pub length_first : (ltb n 20 || ltb (length s) n) ≡ false → n ≡ first_length s
     unfolding first_length broken
     length_first h = rw (le-ltb (length s) 4 long, ← is, h)
+
+    pub first_some : (ltb n 20 || ltb (length s) n) ≡ false → n ≢ 0
+    first_some h z = let least : 20 ≤ n = ltb-false n 20 (neither (ltb n 20) (ltb (length s) n) h).0 in omega arith
 
     pub first_within : (ltb n 20 || ltb (length s) n) ≡ false → n ≤ length s
     first_within h = ltb-false (length s) n (neither (ltb n 20) (ltb (length s) n) h).1

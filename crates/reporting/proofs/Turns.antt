@@ -61,8 +61,8 @@ module _ (req t₀ file v₀ o₀ : List ℕ) (terms : Terms) (c₀ : List ℕ) 
           buffer_is = rw stays;
         }
 
-    pub going_stops : {n : ℕ} → n ≡ first_length (take (length req - at) (drop at req)) → n ≡ 0 → Runs x c₀ c t v o at
-    going_stops e z = none_more (first_none (drop at req) (here req at e) z)
+    pub going_stops : first_length (take (length req - at) (drop at req)) ≡ 0 → Runs x c₀ c t v o at
+    going_stops z = none_more (first_none (drop at req) (here req at refl) z)
 
     pub going_ends : length req ≤ at → Runs x c₀ c t v o at
     going_ends h = none_more (past_none (drop at req) (rw length-drop (omega arith)))

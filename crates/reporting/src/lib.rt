@@ -1,6 +1,6 @@
 #![tactic(auto)]
 // A report over a file of requests laid end to end: each is decided in turn and counted.
-ghost use Rattle.std.specs.Prelude.{cond, ◌≡◌, ◌≤◌, eqb, length};
+ghost use Rattle.std.specs.Prelude.{cond, ◌≡◌, ◌≢◌, ◌≤◌, eqb, length, MatchOption};
 ghost use Rattle.table.specs.Check.{check_table};
 ghost use Rattle.vectors.specs.VectorFile.{check_vectors};
 ghost use Rattle.calling.specs.Lent.{lent};
@@ -27,18 +27,19 @@ const LEFT: usize = 4;
 
 const LEAST: usize = 20;
 
-// The length of the request that stands first, 0 if none does.
-pub fn first_length(s: &[u8]) -> usize
-    ensures { (result ≡ first_length s.now) × (result ≤ length s.now) }
+// The length of the request that stands first, if one does.
+pub fn first_length(s: &[u8]) -> Option<usize>
+    ensures { MatchOption result (first_length s.now ≡ 0)
+        (λ n. (n ≡ first_length s.now) × (n ≢ 0) × (n ≤ length s.now)) }
 {
     if s.len() < LEFT {
-        return 0;
+        return None;
     }
     let n = number::be24(s, message::LENGTH_AT);
     if (n < LEAST) | (s.len() < n) {
-        return 0;
+        return None;
     }
-    n
+    Some(n)
 }
 
 // A call as it is counted.
@@ -93,10 +94,9 @@ fn run(
 {
     let mut at = 0;
     while at < requests.len() {
-        let n = first_length(&requests[at..]);
-        if n == 0 {
+        let Some(n) = first_length(&requests[at..]) else {
             return at;
-        }
+        };
         count_one(counts, k, &requests[at..at + n], t, file, v, out);
         at += n;
     }

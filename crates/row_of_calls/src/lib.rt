@@ -209,10 +209,9 @@ fn run(
     let mut altered = false;
     let mut marked = false;
     while at < requests.len() {
-        let n = reporting::first_length(&requests[at..]);
-        if n == 0 {
+        let Some(n) = reporting::first_length(&requests[at..]) else {
             return ends(STOPPED, served, altered, marked);
-        }
+        };
         if no_room(answers.len(), words.len(), used, served) {
             return ends(NO_ROOM, served, altered, marked);
         }

@@ -1,7 +1,11 @@
 -- A line ends behind its first LF: no other byte of it is one.
-use Rattle.octets.specs.Standard.{ℕ, zero, suc, ◌+◌, ◌/◌, ◌%◌, ◌<◌, ◌≤◌, Bool, true, false, cond, ◌≡◌, refl, ◌∙◌, arith, add-one, eqb, eq-eqb, ne_eqb}
-use Rattle.octets.specs.Standard.{leb-true, leb, List, [], ◌∷◌, ◌++◌, append_assoc, length, length-append, drop, get_or, drop-cons, drop_of_length-le}
+use Rattle.octets.specs.Standard.{ℕ, zero, suc, ◌+◌, ◌/◌, ◌%◌, ◌<◌, ◌≤◌, Bool, true, false, cond, ◌≡◌, refl, ◌∙◌, arith, add-one, eqb, ne_eqb}
+use Rattle.octets.specs.Standard.{leb-true, leb, List, [], ◌∷◌, ◌++◌, append_assoc, length, length-append, drop}
 use Rattle.octets.specs.Standard.{Option, none, some}
+use Rattle.octets.specs.Standard.{ltb, ltb-true, ltb-false, length-drop, take, ◌-◌}
+use Rattle.parsing.proofs.Fields.{part_end}
+use Rattle.std.specs.Prelude.{None, Some}
+use Rattle.std.specs.List.{position, position_or_len}
 use Rattle.octets.proofs.All.{and_left, and_right}
 use Rattle.decimals.specs.Decimal.{digit_count, digits_of, decimal}
 use Rattle.quoting.specs.Quoted.{is_listed, listable, listed_byte, doubled, quoted}
@@ -110,18 +114,64 @@ place_past list n at {r} h p e = rw (add-one n) (go (row_in (drop (place_of list
     go none f l = absurd (omega arith)
     go (some x) f l = e ∙ rw (p, row_end (drop (place_of list n) list) x f)
 
--- The turns of the loop.
-module _ (list : List ℕ) (at i : ℕ) (left : at + line_size (drop at list) ≡ i + line_size (drop i list)) where
-  size_next : i < length list → line_size (drop i list) ≡ suc (cond (eqb (get_or list i 0) 10) 0 (line_size (drop (i + 1) list)))
-  unfolding line_size
-  size_next h = rw (add-one i, drop-cons list i 0 h)
+-- The place of the first LF.
+abbrev is_lf : ℕ → Bool
+is_lf x = eqb x 10
 
-  pub past_more : i < length list → (get_or list i 0 ≡ 10 → ⊥) → at + line_size (drop at list) ≡ i + 1 + line_size (drop (i + 1) list)
-  past_more h n = let q : line_size (drop i list) ≡ suc (line_size (drop (i + 1) list)) = size_next h ∙ rw (ne_eqb (get_or list i 0) 10 n) in omega arith
+unfoldable first_lf : List ℕ → ℕ
+first_lf s = position_or_len is_lf s
 
-  pub past_here : i < length list → get_or list i 0 ≡ 10 → i + 1 ≡ at + line_size (drop at list)
-  past_here h e = let q : line_size (drop i list) ≡ 1 = size_next h ∙ rw (eq-eqb (get_or list i 0) 10 e) in omega arith
+lf_cons : (x : ℕ) (s : List ℕ) → first_lf (x ∷ s) ≡ cond (eqb x 10) 0 (1 + first_lf s)
+unfolding first_lf
+lf_cons x s = go (eqb x 10) refl
+  where
+    go : (b : Bool) → eqb x 10 ≡ b → position_or_len is_lf (x ∷ s) ≡ cond b 0 (1 + position_or_len is_lf s)
+    go true e = rw e refl
+    go false e = rw e refl
 
-  pub past_end : length list ≤ i → i ≡ at + line_size (drop at list)
-  unfolding line_size
-  past_end h = let q : line_size (drop i list) ≡ 0 = rw (drop_of_length-le list {i = i} h) in omega arith
+line_some : (s : List ℕ) → first_lf s < length s → line_size s ≡ suc (first_lf s)
+unfolding line_size
+line_some [] h = absurd (omega arith)
+line_some (x ∷ s) h = go (eqb x 10) (first_lf (x ∷ s)) (lf_cons x s) h (line_some s)
+  where
+    go : (b : Bool) (p : ℕ) → p ≡ cond b 0 (1 + first_lf s) → p < suc (length s) → (first_lf s < length s → line_size s ≡ suc (first_lf s))
+        → suc (cond b 0 (line_size s)) ≡ suc p
+    go true p e l r = omega (arith, e)
+    go false p e l r = omega (arith, e, r (omega (arith, e, l)))
+
+line_none : (s : List ℕ) → length s ≤ first_lf s → line_size s ≡ length s
+unfolding line_size
+line_none [] h = refl
+line_none (x ∷ s) h = go (eqb x 10) (first_lf (x ∷ s)) (lf_cons x s) h (line_none s)
+  where
+    go : (b : Bool) (p : ℕ) → p ≡ cond b 0 (1 + first_lf s) → suc (length s) ≤ p → (length s ≤ first_lf s → line_size s ≡ length s)
+        → suc (cond b 0 (line_size s)) ≡ suc (length s)
+    go true p e l r = absurd (omega (arith, e))
+    go false p e l r = omega (arith, e, r (omega (arith, e, l)))
+
+module _ (list : List ℕ) (at : ℕ) where
+  pub part_lf : position is_lf (take (length list - at) (drop at list)) ≡ position is_lf (drop at list)
+  part_lf = rw (part_end list at) refl
+
+  pub past_found : (i : ℕ) → position is_lf (drop at list) ≡ Some i → (at + i + 1 ≡ at + line_size (drop at list)) × (at + i + 1 ≤ length list)
+  unfolding first_lf
+  past_found i e = go (ltb (first_lf (drop at list)) (length (drop at list))) refl e
+    where
+      go : (c : Bool) → ltb (first_lf (drop at list)) (length (drop at list)) ≡ c → cond c (Some (first_lf (drop at list))) None ≡ Some i
+          → (at + i + 1 ≡ at + line_size (drop at list)) × (at + i + 1 ≤ length list)
+      go true f g =
+          let q : first_lf (drop at list) ≡ i = cc in
+          let l : first_lf (drop at list) < length (drop at list) = ltb-true _ _ f in
+          (omega (arith, line_some (drop at list) l), omega (arith, length-drop at list))
+      go false f g = absurd cc
+
+  pub past_none : at ≤ length list → position is_lf (drop at list) ≡ None → length list ≡ at + line_size (drop at list)
+  unfolding first_lf
+  past_none h e = go (ltb (first_lf (drop at list)) (length (drop at list))) refl e
+    where
+      go : (c : Bool) → ltb (first_lf (drop at list)) (length (drop at list)) ≡ c → cond c (Some (first_lf (drop at list))) None ≡ None
+          → length list ≡ at + line_size (drop at list)
+      go true f g = absurd cc
+      go false f g =
+          let l : length (drop at list) ≤ first_lf (drop at list) = ltb-false _ _ f in
+          omega (arith, line_none (drop at list) l, length-drop at list)

@@ -1,6 +1,6 @@
 #![tactic(auto)]
 // What the lines of a list say, as blocks: read in their order, read again, and written as a table.
-ghost use Rattle.std.specs.Prelude.{◌≡◌, ◌+◌, ◌*◌, ◌≤◌, ◌<◌, length, drop};
+ghost use Rattle.std.specs.Prelude.{◌≡◌, ◌+◌, ◌*◌, ◌≤◌, ◌<◌, length, drop, eqb, position};
 ghost use Rattle.octets.specs.Run.{Wrote};
 ghost use Rattle.importing.specs.Said.{place_of, said_at, table_said};
 ghost use Rattle.record.specs.Fields.{count_of};
@@ -51,17 +51,22 @@ fn wide(x: u32) -> usize
     x as usize
 }
 
+// How many bytes stand before the first LF, if there is one.
+fn before_lf(s: &[u8]) -> Option<usize>
+    ensures { result ≡ position (λ x. eqb x 10) s.now }
+{
+    s.iter().position(|x| *x == LF)
+}
+
 // The place behind the line at a place, of which the LF alone is looked for.
 fn past(list: &[u8], at: usize) -> usize
     requires { at ≤ length list.now }
     ensures { (result ≡ at + line_size (drop at list.now)) × (result ≤ length list.now) }
 {
-    for i in at..list.len() {
-        if list[i] == LF {
-            return i + 1;
-        }
+    match before_lf(&list[at..]) {
+        Some(i) => at + i + 1,
+        None => list.len(),
     }
-    list.len()
 }
 
 // The block of record k once more. From the last place kept before it lines are passed over, none of which is missing.

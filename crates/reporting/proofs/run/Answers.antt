@@ -5,8 +5,8 @@ use Rattle.reporting.proofs.run.Goals as goal
 pub loop-at-init : goal.loop-at-init
 loop-at-init c = (search rules, search rules, search rules, search rules, search rules, search rules, search (rules, going_start))
 
-pub returns-then-n-eq0 : goal.returns-then-n-eq0
-returns-then-n-eq0 c = search (rules, going_stops)
+pub returns-in_default : goal.returns-in_default
+returns-in_default c = search (rules, going_stops)
 
 pub overflow_add-at : goal.overflow_add-at
 overflow_add-at c = search (rules, turn_within)
@@ -34,7 +34,7 @@ loop-at-preserved c = (
   search rules,
   search (rules, turn_table),
   search (rules, turn_vectors),
-  search (rules, going_turns),
+  going_turns _ _ _ _ _ _ _ _ _ _ _ _ c.loop-at.invariant.6 c.in-Some.ensures.0 c.in-Some.ensures.1 c.loop-at.invariant.0 c.in-Some.ensures.2 c.count_one.ensures,
 )
 
 pub returns : goal.returns

@@ -20,8 +20,8 @@ loop-at-init c = (
   search (rules, going_start),
 )
 
-pub returns-then-n-eq0 : goal.returns-then-n-eq0
-returns-then-n-eq0 c = search (rules, going_stops)
+pub returns-in_default : goal.returns-in_default
+returns-in_default c = search (rules, going_stops)
 
 pub returns-then-no_room : goal.returns-then-no_room
 returns-then-no_room c = search (rules, going_full)
@@ -66,8 +66,8 @@ loop-at-preserved c = let turn = c.loop-at in (
   search (rules, turn_table),
   search (rules, turn_vectors),
   search (rules, turn_exact),
-  going_turns _ _ _ _ _ _ _ _ _ _ _ _ _ _ _ _ turn.invariant.11 c.first_length-n.ensures.0 c.if-n-eq0.false
-      c.no_room.ensures c.if-no_room.false turn.invariant.0 c.first_length-n.ensures.1 turn.invariant.5 turn.invariant.6
+  going_turns _ _ _ _ _ _ _ _ _ _ _ _ _ _ _ _ turn.invariant.11 c.in-Some.ensures.0 c.in-Some.ensures.1
+      c.no_room.ensures c.if-no_room.false turn.invariant.0 c.in-Some.ensures.2 turn.invariant.5 turn.invariant.6
       c.serve_at-d.ensures,
 )
 

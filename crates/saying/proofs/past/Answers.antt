@@ -1,12 +1,9 @@
-use Rattle.octets.specs.Standard.{rules}
-use Rattle.saying.proofs.Passing.{past_more, past_here, past_end}
+use Rattle.octets.specs.Standard.{rules, ◌∙◌, sym}
+use Rattle.saying.proofs.Passing.{part_lf, past_found, past_none}
 use Rattle.saying.proofs.past.Goals as goal
 
-pub returns-then-list-i-eq-LF : goal.returns-then-list-i-eq-LF
-returns-then-list-i-eq-LF c = (search (rules, past_here), search rules)
+pub returns-in-Some : goal.returns-in-Some
+returns-in-Some c = past_found _ _ _ (sym (part_lf c.args.list.now c.args.at) ∙ sym c.before_lf.ensures ∙ c.in-Some.is)
 
-pub loop-i-preserved : goal.loop-i-preserved
-loop-i-preserved c = search (rules, past_more)
-
-pub returns : goal.returns
-returns c = (search (rules, past_end), search rules)
+pub returns-in-None : goal.returns-in-None
+returns-in-None c = (past_none _ _ c.requires (sym (part_lf c.args.list.now c.args.at) ∙ sym c.before_lf.ensures ∙ c.in-None.is), search rules)
