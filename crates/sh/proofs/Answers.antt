@@ -38,16 +38,21 @@ module _ (r : References) (b : List ℕ) (rec : Record) (p : Bool) (name : List 
 -- 702, of a record or not there.
 module _ (t : List ℕ) (g : Result Told Verdict) where
   module _ (count : ℕ) (among : AmongRecords count g) (a : Told) (e : g ≡ Ok a) where
-    within : (1 ≤ a.block) × (a.block ≤ count)
+    within : a.block ≤ count
     within = rw e at among
 
     pub block_room : SoundTable t count → 512 * a.block + 512 ≤ length t
-    block_room s = sound_block t count s a.block within.1
+    block_room s = sound_block t count s a.block within
 
-    module _ (b : List ℕ) (eb : b ≡ block_of t a.block) where
+    -- block 0 is no record's
+    pub wrote_none : (o : List ℕ) → a.block ≡ 0 → Wrote (told_bytes t (telling_of g)) o o 0
+    unfolding told_bytes over
+    wrote_none o z = rw (e, z) (record { count = refl; bytes = refl })
+
+    module _ (one : a.block ≡ 0 → ⊥) (b : List ℕ) (eb : b ≡ block_of t a.block) where
       told_is : told_bytes t (telling_of g) ≡ record_bytes a.asked b
       unfolding told_bytes
-      told_is = rw (e, ne_eqb a.block 0 (omega (arith, within.0)), eb)
+      told_is = rw (e, ne_eqb a.block 0 one, eb)
 
       pub told_room : {m : ℕ} → length (told_bytes t (telling_of g)) ≤ m → length (record_bytes a.asked b) ≤ m
       told_room r = rw told_is at r

@@ -85,4 +85,4 @@ module _ (d : Dialect) (req t places : List ℕ) (count : ℕ) (w : Walked) (is 
       unfolding tell_found tell_record
       known_tells o =
           let a = public_among t count identity found in
-          record { telling_is = rw (tells_found, at, ← asked, o); within = (a.from k at, a.to k at); near = omega arith }
+          record { telling_is = rw (tells_found, at, ← asked, o); within = a.to k at; near = omega arith }

@@ -8,9 +8,9 @@ use Rattle.sh.specs.Tell.{tell, telling_of}
 use Rattle.sh.specs.declared.Reply.{Reply}
 use Rattle.sh.specs.declared.telling.Told.{Told}
 
--- a record that is told of is one of so many
+-- a record that is told of is none, 0, or one of so many
 abbrev pub AmongRecords : ℕ → Result Told Verdict → Type 0
-AmongRecords count g = IfOk g (λ (a : Told). (1 ≤ a.block) × (a.block ≤ count))
+AmongRecords count g = IfOk g (λ (a : Told). a.block ≤ count)
 
 -- what is told is so, of one of the records or of none, and its place lies in the request
 pub record Tells (d : Dialect) (req t : List ℕ) (count : ℕ) (g : Result Told Verdict) : Type 0 where

@@ -36,7 +36,13 @@ fn put_told(out: &mut [u8], t: &[u8], count: usize, g: Result<Told, Verdict>) ->
     ensures { (result ≤ length out.old) × Wrote (told_bytes t.now (telling_of g)) out.old out.new result }
 {
     match g {
-        Ok(told) => put_record(out, told.asked, blocks::block(t, told.block as usize)),
+        Ok(told) => {
+            let k = told.block as usize;
+            if k == 0 {
+                return 0;
+            }
+            put_record(out, told.asked, blocks::block(t, k))
+        }
         Err(_) => 0,
     }
 }
