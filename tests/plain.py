@@ -2,17 +2,18 @@
 """plain.py [FOLDER]: holds the plain engine to sharing with the quick one only what has no trick in it.
 
 It goes by the code of all crates, not by definitions and laws, which are the same for both. What a crate of the plain engine names of any other crate, in a
-`use` or where it calls, as a function or as a method, is a type, a constant, or a function of SHARED; and by whatever these call in turn, no function of a crate that has a trick is reached but those of REACHED,
-and the quick functions over bytes only below the effect on one block. Then the same with one forbidden line put in after the other, each of which must be
-found. Status 0 if all is so, 1 if not."""
-import pathlib, re, sys
+`use` or where it calls, as a function or as a method, is a type, a constant, or a function of SHARED; and by whatever these call in turn, no function of a
+crate that has a trick is reached but those of REACHED, and the quick functions over bytes only below the effect on one block. A method counts as each type's
+of its name, whatever stands before the dot, but on a field of a parameter: there as that type's which the declarations say. Then the same with one forbidden
+line put in after the other, each of which must be found. Status 0 if all is so, 1 if not."""
+import functools, pathlib, re, sys
 
 ENTRY = 'ndushavire_plain'
 ENTRIES = ['ndushavire::' + ENTRY, 'ndushavire_c::' + ENTRY]  # the library's function, and what C calls
 OWN = 'plain_table plain_lookup plain_vectors plain_questions plain_assignment plain_reading plain_looks plain_answering plain_deciding plain_calling'.split()
 # Numbers in bytes, blocks and the parts of them, one AVP and what a table of kinds says of it, the choices, the effect on one block, the writers.
 SHARED = {
-    'octets': 'byte name::smaller number::be16 number::be32 run::zero_between',
+    'octets': 'byte number::be16 number::be32 run::zero_between',
     'blocks': 'block',
     'record': 'fields::barred fields::private fields::public fields::server fields::unregistered_services header::read subscriber::read',
     'table': 'area::table_length',
@@ -29,7 +30,6 @@ SHARED = {
     'envelope': 'front::put_start header::put_header last::put_failed',
     'reply': 'front::put_server given::put_given',
     'refusals': 'early',
-    'std': 'num::wrapping_add_u32',
 }
 # Of the crates with a trick: the check's hash and sums over several blocks, look-ups that halve, one walk for all rules, one pass over all records.
 REACHED = {
@@ -40,26 +40,21 @@ REACHED = {
     'requests': 'dialect identities::next_identity places::data_of places::given places::member_of places::value_of places::value_of_place',
     'questions': '', 'assignment': 'naming::meant_by', 'answering': '', 'deciding': '', 'calling': '',
 }
-# Methods of one name and several types: whose it is where it is called on this.
-RECEIVERS = {('numbers', 'plan'): 'choices::plan::plan'}
 # The effect on one block, below which alone the sum as the machine has its words, names by eights of bytes, and masks are.
 EFFECTS = {'rewrite::change_if', 'vectors::mark::spend'}
-QUICK = re.compile(r'octets::(sum::|name::(?!smaller$)|run::(mask|set_bits|set_past)$|number::le)')
+QUICK = re.compile(r'octets::(sum::|name::|run::(mask|set_bits|set_past)$|number::le)')
 
 
 def plain(text):
     """Without comments, strings and single characters, of which one may be a quote, and what is said of a function before its body."""
     text = re.sub(r"b?'(\\.|[^'\\\n])'", "''", text)
     text = re.sub(r'(?m)//.*$', ' ', re.sub(r'b?"(\\.|[^"\\])*"', '""', text))
-    text = re.sub(r'(?m)^\s*(?:pub\s+)?ghost\s[^;]*;', ' ', text)
     # what an attribute tells the prover
     text = re.sub(r'#!?\[tactic\((?:[^()]|\([^()]*\))*\)\]', ' ', text)
-    clauses = re.compile(r'\b(?:requires|ensures)\*?(?:\s+\w+)?\s*(?=\{)')
-    while True:
-        clause = clauses.search(text)
-        if not clause:
-            return text
+    clauses = re.compile(r'\b(?:(?:requires|ensures)\*?(?:\s+\w+)?|ghost\s+\w+\s*:)\s*(?=\{)')
+    while clause := clauses.search(text):
         text = text[:clause.start()] + ' ' + text[closed(text, clause.end()):]
+    return re.sub(r'(?m)^\s*(?:pub\s+)?ghost\s[^;]*;', ' ', text)
 
 
 def closed(text, at):
@@ -87,6 +82,7 @@ def names_in(use):
     return [head.strip() + name for part in parts if part.strip() for name in names_in(part.strip())]
 
 
+@functools.lru_cache(None)
 class Source:
     """A file of code: its module's path, the names that it brings in, and its functions, each with what it says."""
 
@@ -100,12 +96,23 @@ class Source:
         self.brought = {use.split('::')[-1]: self.whole(use) for use in self.uses if use not in self.broad}
         body = re.sub(r'(?m)^\s*(?:pub\s+)?use\s+[^;]*;', ' ', text)
         self.body = body
-        parts = re.split(r'\bfn\s+(\w+)', body)
-        self.functions = dict(zip(parts[1::2], parts[2::2]))
-        self.methods = set(re.findall(r'\bfn\s+(\w+)\s*(?:<[^>(]*>)?\(\s*(?:&\s*)?(?:mut\s+)?self\b', body))
+        self.outside, *parts = re.split(r'\bfn\s+(\w+)', body)
+        self.functions, self.methods = {}, set()
+        # Functions of one name, of several types, count as one that says what each says.
+        for name, said in zip(parts[::2], parts[1::2]):
+            self.functions[name] = self.functions.get(name, '') + 'fn' + said
+            if re.search(r'\(\s*(?:&\s*)?(?:\'\w+\s+)?(?:mut\s+)?self\b', said.split('{')[0]):
+                self.methods.add(name)
+        self.types = blocks(body, r'\b(?:struct|enum)\s+(\w+)[^{;(]*(?=\{)')
+        self.impls = blocks(body, r'\bimpl\b[^{;]*?(\w+)\s*(?:<[^<>{;]*>)?\s*(?:where\b[^{;]*)?(?=\{)')
 
     def whole(self, path):
         return re.sub(r'^crate\b', self.crate, path)
+
+
+def blocks(text, head):
+    """Each name that a head gives, and what stands in the braces behind it."""
+    return [(found[1], text[found.end():closed(text, found.end())]) for found in re.finditer(head, text)]
 
 
 def lower(path):
@@ -121,10 +128,44 @@ class Code:
         self.crates = {source.crate for source in self.sources}
         self.modules = {source.module for source in self.sources}
         self.functions = {source.module + '::' + name: (source, said) for source in self.sources for name, said in source.functions.items()}
-        self.methods = {}
+        self.methods, self.owned, self.typed = {}, {}, {}
         for source in self.sources:
             for name in source.methods:
                 self.methods.setdefault(name, set()).add(source.module + '::' + name)
+            for kind, block in source.impls:
+                for name in re.findall(r'\bfn\s+(\w+)', block):
+                    self.owned.setdefault(name, set()).add(source.module + '::' + name)
+                    self.typed.setdefault((kind, name), set()).add(source.module + '::' + name)
+
+    def declared(self, source, path):
+        """The source and the block of the one type of this name in the crate that a path leads to, or none."""
+        head, *rest = re.sub(r'\s', '', path).split('::')
+        crate = source.brought[head] if head in source.brought else head if rest and head in self.crates else source.crate
+        found = [(other, block) for other in self.sources if other.crate == crate.split('::')[0]
+                 for name, block in other.types if name == (rest or [head])[-1]]
+        return found[0] if len(found) == 1 else None
+
+    def receiver(self, source, text, before):
+        """The name of the type of what stands before a method's dot, if it is a field of a parameter, or of its fields, whose name is bound once in the
+        function; else none."""
+        chain = re.search(r'(\w+(?:\s*\.\s*\w+)+)\s*$', before)
+        if not chain or before[:chain.start()].rstrip().endswith('.'):
+            return None
+        name, *fields = re.split(r'\s*\.\s*', chain[1])
+        typed = r':\s*(?:&\s*(?:\'\w+\s+)?(?:mut\s+)?)?((?:\w+\s*::\s*)*[A-Z]\w*)'
+        head, _, body = text.partition('{')
+        kinds = re.findall(r'[(,]\s*(?:mut\s+)?%s\s*%s' % (name, typed), head)
+        # by let, for or a closure, or in a pattern
+        anew = r'\b(?:let|for|matches)\b[^=;]*\b%s\b|\|[^|]*\b%s\b[^|]*\||\b%s\b[^{;]*=>' % (name, name, name)
+        if len(kinds) != 1 or re.search(anew, body):
+            return None
+        for field in fields:
+            found = self.declared(source, kinds[0])
+            kinds = found and re.findall(r'\b%s\s*%s' % (field, typed), found[1])
+            if not kinds or len(kinds) != 1:
+                return None
+            source = found[0]
+        return kinds[0].split('::')[-1] if self.declared(source, kinds[0]) else None
 
     def called(self, source, text):
         """The functions that a text names, by their whole paths: called, or taken by name behind a path."""
@@ -141,14 +182,20 @@ class Code:
                 whole = source.module + '::' + rest
             else:
                 whole = source.whole(head + '::' + rest)
-            whole = lower(whole)
+            name, whole = whole.split('::')[-1], lower(whole)
             if whole in self.functions or whole.split('::')[0] not in self.crates or (rest and whole not in self.modules):
                 found.add(whole)
-        # A method counts as each function of its name that takes a self, of the source's own crate if that has one.
-        for receiver, name in re.findall(r'(\w+)\s*\.\s*([a-z_]\w*)\s*\(', text):
-            whose = self.methods.get(name, set())
-            mine = {path for path in whose if path.split('::')[0] == source.crate}
-            found |= {RECEIVERS[receiver, name]} if (receiver, name) in RECEIVERS else mine or whose
+            # Of a type that stands elsewhere: each type's function of that name.
+            if whole not in self.functions and re.search(r'\b[A-Z]\w*\s*::\s*\w+$', path):
+                found |= self.owned.get(name, set())
+        for name in re.findall(r'>\s*::\s*([a-z_]\w*)', text):
+            found |= self.owned.get(name, set()) | self.methods.get(name, set())
+        # A method counts as each function of its name that takes a self, whatever it is called on, but for a field of a parameter, whose type stands there.
+        for part in re.split(r'\bfn\b', text):
+            for call in re.finditer(r'\.\s*([a-z_]\w*)\s*(?=\(|::)', part):
+                whose = self.methods.get(call[1], set())
+                kind = self.receiver(source, part, part[:call.start()]) if len(whose) > 1 else None
+                found |= self.typed.get((kind, call[1])) or whose
         return {path for path in found if '::' in path}
 
     def reached(self, names, but=()):
@@ -195,6 +242,8 @@ def noticed(files):
     """Each forbidden line put in: those that are not found."""
     into = lambda path, line: {**files, path: files[path] + '\n' + line + '\n'}
     at = lambda crate: 'crates/%s/src/lib.rt' % crate
+    lent = lambda call: into(at('plain_assignment'), 'fn more(said: &Said) { %s; }' % call)
+    below = lambda line: into(at('refusals'), line)
     called = lambda crate, use, call: into(at(crate), (use + '\n' if use else '') + 'fn more(t: &[u8]) { %s; }' % call)
     tried = {
         'a look-up that halves': called('plain_lookup', '', 'lookup::find_public(t, 1, t)'),
@@ -216,6 +265,30 @@ def noticed(files):
         'the question of a MAR': called('plain_deciding', '', 'questions::authentication::authenticate(t)'),
         'the plan of a SAR': called('plain_deciding', 'use assignment::assigning;', 'assigning::plan_sar(t, 1, t, s, t, t)'),
         'the plan of a SAR by a method': called('plain_deciding', '', 's.plan(t, 1, t)'),
+        'a method of what stands in parentheses': called('plain_deciding', '', '(&s).plan(t, 1, t)'),
+        'a method of a value made there': called('plain_deciding', '', 'assignment::Said { numbers, server: t, user: t }\n    .plan(t, 1, t)'),
+        'a method behind a question mark': called('plain_deciding', '', 'asked(t)?.plan(t, 1, t)'),
+        'a method of what a call answers': called('plain_assignment', '', 'said\n    .asks()\n    . look_at (t)'),
+        'a method of one of several': called('plain_deciding', '', 'x[0].plan(t, 1, t)'),
+        'a method of a number of several': called('plain_deciding', '', 'x.0.plan(t, 1, t)'),
+        'a method of what is called numbers': called('plain_assignment', '', 'numbers.plan(t, 1, t)'),
+        'a method of a field called numbers': called('plain_assignment', '', 's.said.numbers.plan(t, 1, t)'),
+        'a method of the field numbers of what is bound anew': lent('let said = a(said); said.numbers.plan(t, 1, t)'),
+        'a method of the field numbers in a closure': lent('a(|said| said.numbers.plan(t, 1, t))'),
+        'a method of the field numbers of an arm': lent('match a() { Some(said) => said.numbers.plan(t, 1, t) }'),
+        'a method of the field numbers of an arm in braces': lent('match a() { M { said } => said.numbers.plan(t, 1, t) }'),
+        'a method of the field numbers of a pattern': lent('if let M { said } = a() { said.numbers.plan(t, 1, t) }'),
+        'a method of the field numbers of a pattern in a test': lent('matches!(a(), M { said } if said.numbers.plan(t, 1, t))'),
+        'a method of a field numbers of another type': into(at('plain_assignment'), 'struct M { numbers: Said }\nfn more(s: &M) { s.numbers.plan(t, 1, t); }'),
+        'a method of a parameter called numbers': into(at('plain_assignment'), 'fn more(numbers: &Said) { numbers.plan(t, 1, t); }'),
+        "a method's name that a plain crate has too": into(at('plain_assignment'), 'impl More { fn look_at(&self) {} }\nfn more() { a.look_at(t); }'),
+        'a method by its path': called('plain_deciding', '', 'assignment::Said::plan(&s, t, 1, t)'),
+        'a method by a path in angles': called('plain_deciding', '', '<assignment::Said>::plan(&s, t, 1, t)'),
+        'a method by a path with arguments': called('plain_assignment', '', "Said::<'_> ::plan(&s, t, 1, t)"),
+        'a method taken and not called': called('plain_assignment', '', 'let f = Said::plan'),
+        'a method below what is shared': below('fn early(t: &[u8]) -> u16 { a()?.plan(t, 1, t); 0 }'),
+        'a method by its path below what is shared': below('use assignment::Said;\nfn early(t: &[u8]) -> u16 { Said::plan(&s, t, 1, t); 0 }'),
+        'a trick in one of two methods of a name': below('impl A { fn early(&self) { table::check(t, 0); } }\nimpl B { fn early(&self) {} }'),
         'the look at a record by a method': called('plain_assignment', '', 'asks.look_at(t)'),
         'the survey of the records named': called('plain_assignment', '', 'naming::survey_all(t)'),
         'the survey of the records owned': called('plain_assignment', '', 'assignment::owned::survey_owned(t)'),

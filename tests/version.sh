@@ -13,7 +13,7 @@ said NDUSHAVIRE_VERSION_NUMBER "$number" "$(sed -n 's/^#define NDUSHAVIRE_VERSIO
 linked=$("$@") || fail "the library that was linked says '$linked', and the header $number"
 said 'the library that was linked' "$number" "$linked"
 said crates/ndushavire/specs/Version.antt "${version//./ }" "$(sed -n 's/^version = number_of //p' crates/ndushavire/specs/Version.antt)"
-said crates/arguments/src/lib.rt "$version" "$(sed -n 's/^ *say(rt, b" \([0-9.]*\)\\n");$/\1/p' crates/arguments/src/lib.rt)"
+said crates/arguments/src/lib.rt "$version" "$(sed -n 's/^ *files::put(rt, b" \([0-9.]*\)\\n");$/\1/p' crates/arguments/src/lib.rt)"
 for file in packaging/ndushavire{,_sh}.pc.in; do said "$file" @VERSION@ "$(sed -n 's/^Version: //p' "$file")"; done # the header's, by packaging/install.sh
 said 'packaging/ndushavire_sh.pc.in of the other' 'ndushavire = @VERSION@' "$(sed -n 's/^Requires: //p' packaging/ndushavire_sh.pc.in)"
 ! grep -q '#define NDUSHAVIRE_.*VERSION' include/ndushavire_sh.h || fail 'the second header has a version of its own'

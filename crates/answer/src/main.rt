@@ -18,10 +18,10 @@ fn answer(rt: &(impl Files + Input + Print + Eprint)) -> Option<()> {
     let mut vectors = [0u8; FILE_ROOM];
     let mut request = [0u8; REQUEST_ROOM];
     let mut out = [0u8; 36864];
-    let t = files::load_whole(rt, "table", &mut table)?;
-    let p = files::load_whole(rt, "profile", &mut profile)?;
-    let v = if files::is_there(rt, "vectors") {
-        files::load_whole(rt, "vectors", &mut vectors)?
+    let t = files::load_whole(rt, b"table", &mut table)?;
+    let p = files::load_whole(rt, b"profile", &mut profile)?;
+    let v = if files::is_there(rt, b"vectors") {
+        files::load_whole(rt, b"vectors", &mut vectors)?
     } else {
         0
     };
@@ -33,13 +33,13 @@ fn answer(rt: &(impl Files + Input + Print + Eprint)) -> Option<()> {
         &profile[..p],
         &mut vectors[..v],
     );
-    files::say(rt, &out[..n]);
+    files::put(rt, &out[..n]);
     Some(())
 }
 
-const PROGRAM: Program = Program {
-    name: "answer",
-    help: "usage: answer <REQUEST\nAnswers one Diameter request from the files table, profile and, where it is there, vectors of this folder. See answer(1).\n",
+const PROGRAM: Program<'static> = Program {
+    name: b"answer",
+    help: b"usage: answer <REQUEST\nAnswers one Diameter request from the files table, profile and, where it is there, vectors of this folder. See answer(1).\n",
 };
 
 fn main(rt: HostRuntime) {

@@ -3,7 +3,6 @@
 ghost use Rattle.std.specs.Prelude.{◌≡◌};
 ghost use Rattle.arguments.specs.Asked.{asked_by};
 
-use files::say;
 use octets::name;
 use std::env::{Env, FillError};
 
@@ -42,26 +41,26 @@ fn is_there(rt: &impl Env, number: usize) -> bool {
 
 // A program, by its name and what it says of itself.
 #[derive(Clone, Copy)]
-pub struct Program {
-    pub name: &'static str,
-    pub help: &'static str,
+pub struct Program<'a> {
+    pub name: &'a [u8],
+    pub help: &'a [u8],
 }
 
-impl Program {
+impl Program<'_> {
     fn refuse(&self, rt: &impl Eprint) {
-        files::fail(
+        files::say(
             rt,
             self.name,
-            &"no arguments are taken but --help or --version alone",
+            b"no arguments are taken but --help or --version alone",
         );
     }
 
     fn reply(&self, rt: &(impl Print + Eprint), asked: Option<Asked>) {
         match asked {
-            Some(Asked::Help) => say(rt, self.help.as_bytes()),
+            Some(Asked::Help) => files::put(rt, self.help),
             Some(Asked::Version) => {
-                say(rt, self.name.as_bytes());
-                say(rt, b" 0.17.0\n");
+                files::put(rt, self.name);
+                files::put(rt, b" 0.17.0\n");
             }
             None => self.refuse(rt),
         }

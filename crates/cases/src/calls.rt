@@ -1,14 +1,13 @@
 // The calls, a function for each entry: it lends the slices of the case, copies of those that the entry writes to, and tells of the outcome.
-use std::io;
 use streams::case::Case;
 use streams::outcome;
 
-fn check(rt: &impl Print, case: &Case) -> io::Result<()> {
+fn check(rt: &impl Print, case: &Case) -> bool {
     let word = ndushavire::ndushavire_check(case.slice(0), case.slice(1));
     outcome::put(rt, word, &[])
 }
 
-fn decide(rt: &impl Print, case: &Case) -> io::Result<()> {
+fn decide(rt: &impl Print, case: &Case) -> bool {
     let mut table = case.lend(1);
     let mut vectors = case.lend(3);
     let mut buffer = case.lend(4);
@@ -24,12 +23,12 @@ fn decide(rt: &impl Print, case: &Case) -> io::Result<()> {
     outcome::put(rt, word, &[&table, &vectors, &buffer])
 }
 
-fn check_vectors(rt: &impl Print, case: &Case) -> io::Result<()> {
+fn check_vectors(rt: &impl Print, case: &Case) -> bool {
     let word = ndushavire::ndushavire_check_vectors(case.slice(0));
     outcome::put(rt, word, &[])
 }
 
-fn report(rt: &impl Print, case: &Case) -> io::Result<()> {
+fn report(rt: &impl Print, case: &Case) -> bool {
     let mut table = case.lend(1);
     let mut vectors = case.lend(3);
     let mut buffer = case.lend(4);
@@ -47,31 +46,31 @@ fn report(rt: &impl Print, case: &Case) -> io::Result<()> {
     outcome::put(rt, word, &[&table, &vectors, &buffer, &area])
 }
 
-fn forward(rt: &impl Print, case: &Case) -> io::Result<()> {
+fn forward(rt: &impl Print, case: &Case) -> bool {
     let mut table = case.lend(0);
     let word = ndushavire::ndushavire_forward(table.bytes(), case.slice(1), case.number(2));
     outcome::put(rt, word, &[&table])
 }
 
-fn back(rt: &impl Print, case: &Case) -> io::Result<()> {
+fn back(rt: &impl Print, case: &Case) -> bool {
     let mut table = case.lend(0);
     let word = ndushavire::ndushavire_back(table.bytes(), case.slice(1));
     outcome::put(rt, word, &[&table])
 }
 
-fn take(rt: &impl Print, case: &Case) -> io::Result<()> {
+fn take(rt: &impl Print, case: &Case) -> bool {
     let mut area = case.lend(0);
     let word = ndushavire::ndushavire_take(area.bytes(), case.slice(1), case.slice(2));
     outcome::put(rt, word, &[&area])
 }
 
-fn export(rt: &impl Print, case: &Case) -> io::Result<()> {
+fn export(rt: &impl Print, case: &Case) -> bool {
     let mut list = case.lend(2);
     let word = ndushavire::ndushavire_export(case.slice(0), case.slice(1), list.bytes());
     outcome::put(rt, word, &[&list])
 }
 
-fn import(rt: &impl Print, case: &Case) -> io::Result<()> {
+fn import(rt: &impl Print, case: &Case) -> bool {
     let mut table = case.lend(3);
     let word = ndushavire::ndushavire_import(
         case.slice(0),
@@ -82,7 +81,7 @@ fn import(rt: &impl Print, case: &Case) -> io::Result<()> {
     outcome::put(rt, word, &[&table])
 }
 
-fn sh_decide(rt: &impl Print, case: &Case) -> io::Result<()> {
+fn sh_decide(rt: &impl Print, case: &Case) -> bool {
     let mut buffer = case.lend(3);
     let word = ndushavire_sh::ndushavire_sh_decide(
         case.slice(0),
@@ -94,9 +93,9 @@ fn sh_decide(rt: &impl Print, case: &Case) -> io::Result<()> {
     outcome::put(rt, word, &[&buffer])
 }
 
-// Calls an entry by its number in the streams; none, if it is not one.
-pub fn call(rt: &impl Print, entry: u8, case: &Case) -> Option<io::Result<()>> {
-    Some(match entry {
+// Calls an entry by its number in the streams.
+pub fn call(rt: &impl Print, entry: u8, case: &Case) -> bool {
+    match entry {
         1 => check(rt, case),
         2 => decide(rt, case),
         3 => check_vectors(rt, case),
@@ -107,6 +106,6 @@ pub fn call(rt: &impl Print, entry: u8, case: &Case) -> Option<io::Result<()>> {
         8 => export(rt, case),
         9 => import(rt, case),
         10 => sh_decide(rt, case),
-        _ => return None,
-    })
+        _ => false,
+    }
 }

@@ -4,8 +4,7 @@ mod saying;
 
 ghost use Rattle.std.specs.Prelude.{◌≡◌, ◌≤◌, length, IfOk, IfSome};
 
-use saying::Reason;
-pub use saying::{fail, say};
+pub use saying::{fail, put, say};
 use std::fs::File;
 use std::io;
 use std::io::{ErrorKind, Read};
@@ -38,46 +37,54 @@ fn count(from: &mut impl Read) -> io::Result<usize> {
     Err(io::Error::from(ErrorKind::FileTooLarge))
 }
 
+// A file, open to be read. The system's files have names that are text, and no other can be opened.
+fn open<R: Files>(rt: &R, path: &[u8]) -> io::Result<R::File> {
+    match str::from_utf8(path) {
+        Ok(name) => File::open(rt, name),
+        Err(_) => Err(io::Error::from(ErrorKind::InvalidFilename)),
+    }
+}
+
 // Whether a file is there. Of one that cannot be opened for another reason reading says what is wrong.
-pub fn is_there(rt: &impl Files, path: &str) -> bool {
-    !File::open(rt, path).is_err_and(|error| error.kind() == ErrorKind::NotFound)
+pub fn is_there(rt: &impl Files, path: &[u8]) -> bool {
+    !open(rt, path).is_err_and(|error| error.kind() == ErrorKind::NotFound)
 }
 
 // What was read, or nothing once it is said why.
-fn or_said(rt: &impl Eprint, what: &str, read: io::Result<usize>) -> Option<usize>
+fn or_said(rt: &impl Eprint, what: &[u8], read: io::Result<usize>) -> Option<usize>
     ensures { IfSome result (λ n. read ≡ Ok n) }
 {
     match read {
         Ok(n) => Some(n),
         Err(error) => {
-            fail(rt, what, &Reason(&error));
+            fail(rt, what, &error);
             None
         }
     }
 }
 
-fn load_from(rt: &impl Files, path: &str, out: &mut [u8]) -> io::Result<usize>
+fn load_from(rt: &impl Files, path: &[u8], out: &mut [u8]) -> io::Result<usize>
     ensures { IfOk result (λ n. n ≤ length out.new) }
 {
-    fill(&mut File::open(rt, path)?, out)
+    fill(&mut open(rt, path)?, out)
 }
 
 // How many of a file's first bytes were read, as many as out has room for.
-pub fn load(rt: &(impl Files + Eprint), path: &str, out: &mut [u8]) -> Option<usize>
+pub fn load(rt: &(impl Files + Eprint), path: &[u8], out: &mut [u8]) -> Option<usize>
     ensures { IfSome result (λ n. n ≤ length out.new) }
 {
     or_said(rt, path, load_from(rt, path, out))
 }
 
 // The length of a whole file that was read. One that leaves no byte of out free may go on, and is too long.
-pub fn load_whole(rt: &(impl Files + Eprint), path: &str, out: &mut [u8]) -> Option<usize>
+pub fn load_whole(rt: &(impl Files + Eprint), path: &[u8], out: &mut [u8]) -> Option<usize>
     ensures { IfSome result (λ n. n ≤ length out.new) }
 {
     let n = load(rt, path, out)?;
     if n < out.len() {
         return Some(n);
     }
-    fail(rt, path, &"too long");
+    say(rt, path, b"too long");
     None
 }
 
@@ -85,14 +92,14 @@ pub fn load_whole(rt: &(impl Files + Eprint), path: &str, out: &mut [u8]) -> Opt
 pub fn load_input(rt: &(impl Input + Eprint), out: &mut [u8]) -> Option<usize>
     ensures { IfSome result (λ n. n ≤ length out.new) }
 {
-    or_said(rt, "standard input", fill(&mut rt.reader(), out))
+    or_said(rt, b"standard input", fill(&mut rt.reader(), out))
 }
 
-fn length_of(rt: &impl Files, path: &str) -> io::Result<usize> {
-    count(&mut File::open(rt, path)?)
+fn length_of(rt: &impl Files, path: &[u8]) -> io::Result<usize> {
+    count(&mut open(rt, path)?)
 }
 
 // A file's length.
-pub fn measure(rt: &(impl Files + Eprint), path: &str) -> Option<usize> {
+pub fn measure(rt: &(impl Files + Eprint), path: &[u8]) -> Option<usize> {
     or_said(rt, path, length_of(rt, path))
 }

@@ -3,9 +3,23 @@ use std::fmt::{Display, Formatter};
 use std::io::{Cursor, Write};
 use std::{fmt, io};
 
+// Bytes as they are written: text as it is, and any other byte by its number.
+#[derive(Clone, Copy)]
+struct Shown<'a>(&'a [u8]);
+
+impl Display for Shown<'_> {
+    fn fmt<W: fmt::Write>(&self, f: &mut Formatter<W>) -> fmt::Result {
+        for chunk in self.0.utf8_chunks() {
+            let rest = chunk.invalid().escape_ascii();
+            write!(f, "{}{rest}", chunk.valid())?;
+        }
+        Ok(())
+    }
+}
+
 // The words of an error.
 #[derive(Clone, Copy)]
-pub struct Reason<'a>(pub &'a io::Error);
+struct Reason<'a>(&'a io::Error);
 
 impl Display for Reason<'_> {
     fn fmt<W: fmt::Write>(&self, f: &mut Formatter<W>) -> fmt::Result {
@@ -28,14 +42,19 @@ fn words(text: &str) -> &str {
         .map_or(text, |(before, _)| before)
 }
 
-// A line on standard error: what failed, as the caller names it, and why.
-pub fn fail(rt: &impl Eprint, what: &str, why: &impl Display) {
-    let _ = eprintln!(rt; "{what}: {why}");
+// A line on standard error: what it is about, and what is said of that.
+pub fn say(rt: &impl Eprint, what: &[u8], words: &[u8]) {
+    let _ = eprintln!(rt; "{}: {}", Shown(what), Shown(words));
+}
+
+// Says on standard error what failed, as the caller names it, and why.
+pub fn fail(rt: &impl Eprint, what: &[u8], error: &io::Error) {
+    let _ = eprintln!(rt; "{}: {}", Shown(what), Reason(error));
 }
 
 // Writes to standard output.
-pub fn say(rt: &(impl Print + Eprint), text: &[u8]) {
+pub fn put(rt: &(impl Print + Eprint), text: &[u8]) {
     if let Err(error) = rt.write_all(text) {
-        fail(rt, "standard output", &Reason(&error));
+        fail(rt, b"standard output", &error);
     }
 }

@@ -23,13 +23,14 @@ module _ (s t : List ℕ) (k a b : ℕ) (x : a ≡ be64_at s (8 * k)) (y : b ≡
       → (a ≡ b → ⊥) → r ≡ by_number a b → r ≡ order_of s t
   eights_order to bs bt e g h l d f = eight_differ s t (8 * k) bs bt e (min (length s) (length t)) a b refl (omega arith) (omega arith) x y d f
 
-  pub eights_other : (m : ℕ) → 8 * k + 8 ≤ m → (a ≡ b → ⊥) → false ≡ all_below (alike_at s t) m
+module _ (s t : List ℕ) (i a b : ℕ) (x : a ≡ be64_at s i) (y : b ≡ be64_at t i) where
+  pub eights_other : (m : ℕ) → i + 8 ≤ m → (a ≡ b → ⊥) → false ≡ all_below (alike_at s t) m
   unfolding alike_at
   eights_other m l d = go (all_below (alike_at s t) m) refl
     where
       go : (z : Bool) → all_below (alike_at s t) m ≡ z → false ≡ z
       go false e = refl
-      go true e = absurd (d (x ∙ be64_alike s t (8 * k) (8 * k) (λ j i. eqb-true _ _ (all_at (alike_at s t) m e (8 * k + j) (omega arith))) ∙ sym y))
+      go true e = absurd (d (x ∙ be64_alike s t i i (λ j h. eqb-true _ _ (all_at (alike_at s t) m e (i + j) (omega arith))) ∙ sym y))
 
 -- the first eight
 pub eights_front : (s t : List ℕ) {a b : ℕ} → Bytes s → Bytes t → a ≡ be64_at s 0 → b ≡ be64_at t 0 → a ≡ b → true ≡ all_below (alike_at s t) (8 * 1)
@@ -57,15 +58,15 @@ differ_more s t m n l e = go (all_below (alike_at s t) n) refl
     go true f = absurd (true≢false (sym (all_true (alike_at s t) m (λ i h. all_at (alike_at s t) n f i (omega arith))) ∙ sym e))
 
 -- the last eight, of which what was compared is alike
-pub eights_last : (s t : List ℕ) (k a b : ℕ) → Bytes s → Bytes t → true ≡ all_below (alike_at s t) (8 * k) → 8 ≤ length s → length s - 8 * k < 8
+pub eights_last : (s t : List ℕ) (i a b : ℕ) → Bytes s → Bytes t → true ≡ all_below (alike_at s t) i → 8 ≤ length s → length s - i < 8
     → a ≡ be64_at s (length s - 8) → b ≡ be64_at t (length s - 8) → eqb a b ≡ all_below (alike_at s t) (length s)
 unfolding alike_at
-eights_last s t k a b bs bt e h i x y = go (eqb a b) (all_below (alike_at s t) (length s)) refl refl
+eights_last s t i a b bs bt e h l x y = go (eqb a b) (all_below (alike_at s t) (length s)) refl refl
   where
     go : (u v : Bool) → eqb a b ≡ u → all_below (alike_at s t) (length s) ≡ v → u ≡ v
     go true v f g =
         let m : length s - 8 + 8 ≡ length s = omega arith in
-        eight_alike s t (length s - 8) bs bt (alike_last s t (8 * k) (length s) e i) a b x y (eqb-true a b f) ∙ ap (all_below (alike_at s t)) m ∙ g
+        eight_alike s t (length s - 8) bs bt (alike_last s t i (length s) e l) a b x y (eqb-true a b f) ∙ ap (all_below (alike_at s t)) m ∙ g
     go false false f g = refl
     go false true f g =
         absurd

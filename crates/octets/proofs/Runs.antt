@@ -133,9 +133,18 @@ module _ (s : List ℕ) (at : ℕ) where
   unfolding zero_between
   set_all i n bits a b e = let k : at + 8 * n - at ≡ 8 * i = omega arith in rw k e
 
+-- The turns of the loop that puts a name.
 pub name_none : (s : List ℕ) (at : ℕ) (name : List ℕ) → s ≡ put_name s at name 0
 unfolding put_name
 name_none s at name = refl
+
+pub name_more : (s : List ℕ) (at : ℕ) (name : List ℕ) (i : ℕ) {x : List ℕ} {b : ℕ} → x ≡ put_name s at name i → b ≡ get_or name i 0
+    → set x (at + i) b ≡ put_name s at name (i + 1)
+unfolding put_name
+name_more s at name i e f = rw (add-one, e, f)
+
+pub name_all : (s : List ℕ) (at : ℕ) (name : List ℕ) (i n : ℕ) {x : List ℕ} → i ≤ n → n ≤ i → x ≡ put_name s at name i → x ≡ put_name s at name n
+name_all s at name i n a b e = let k : i ≡ n = omega arith in cc
 
 -- A part of a list with a name's bytes in its place.
 module _ (s : List ℕ) (at : ℕ) (name w : List ℕ) (n : ℕ) (room : at + n ≤ length s) (size : length w ≡ n)
@@ -161,7 +170,7 @@ pub past_zero : (s : List ℕ) (i : ℕ) → length s ≤ i → 0 ≡ get_or s i
 past_zero s i h = sym (get_or-eq_default s 0 h)
 
 -- A name and zeros after it, put one after the other.
-name_then : (s : List ℕ) (at : ℕ) (name : List ℕ) (m k : ℕ) → length name ≤ m → put_name (put_name s at name m) (at + m) [] k ≡ put_name s at name (m + k)
+pub name_then : (s : List ℕ) (at : ℕ) (name : List ℕ) (m k : ℕ) → length name ≤ m → put_name (put_name s at name m) (at + m) [] k ≡ put_name s at name (m + k)
 unfolding put_name
 name_then s at name m zero h = let n : m + 0 ≡ m = omega arith in rw n
 name_then s at name m (suc k) h =
@@ -174,19 +183,16 @@ unfolding put_name
 name_length s at name zero = refl
 name_length s at name (suc n) = simp length-set (name_length s at name n)
 
-pub name_whole : (s : List ℕ) (at : ℕ) (name : List ℕ) (n : ℕ) {v z : List ℕ} (m : ℕ) → at + n ≤ length s → length name ≤ n → v ≡ name → z ≡ replicate m 0
-    → m ≡ length (mid_of (at + length name) (at + n - (at + length name)) (put_mid at (at + length name - at) s v))
-    → put_mid (at + length name) (at + n - (at + length name)) (put_mid at (at + length name - at) s v) z ≡ put_name s at name n
-name_whole s at name n {v} m room h e f q =
+pub name_whole : (s : List ℕ) (at : ℕ) (name : List ℕ) (n : ℕ) {x z : List ℕ} (m : ℕ) → at + n ≤ length s → length name ≤ n
+    → x ≡ put_name s at name (length name) → z ≡ replicate m 0 → m ≡ length (mid_of (at + length name) (at + n - (at + length name)) x)
+    → put_mid (at + length name) (at + n - (at + length name)) x z ≡ put_name s at name n
+name_whole s at name n {x} m room h p f q =
     let k : length name + (n - length name) ≡ n = omega arith in
-    let p = mid_name s at name name (length name) (omega arith) refl (λ i l. refl) (at + length name - at) (omega arith) in
     let g : m ≡ n - length name =
-    q
-    ∙ ap (λ (x : List ℕ). length (mid_of (at + length name) (at + n - (at + length name)) (put_mid at (at + length name - at) s x))) e
-    ∙ rw p (mid_len (at + length name) (at + n) (put_name s at name (length name)) (rw name_length room) ∙ omega arith) in
+    q ∙ rw p (mid_len (at + length name) (at + n) (put_name s at name (length name)) (rw name_length room) ∙ omega arith) in
     let z = mid_name (put_name s at name (length name)) (at + length name) [] (replicate m 0) (n - length name) (rw name_length (omega arith))
     (length-replicate {A = ℕ} m 0 ∙ g) (λ i l. get_or-replicate {A = ℕ} m i 0 0 (omega arith)) (at + n - (at + length name)) (omega arith) in
-    rw (e, f, p, z) (name_then s at name (length name) (n - length name) (omega arith) ∙ ap (put_name s at name) k)
+    rw (p, f, z) (name_then s at name (length name) (n - length name) (omega arith) ∙ ap (put_name s at name) k)
 
 -- A byte of a zero run is zero, and the other way round.
 module _ (s : List ℕ) (from to : ℕ) where

@@ -55,12 +55,22 @@ pub fn set_past(s: &[u8], at: usize, n: usize, first: usize, mask: &[u8]) -> usi
     bits
 }
 
+// Puts a name at a place. By index, as in `copy`: the library's copy of so many bytes is a call of memmove, which no caller had to bring.
+fn put_bytes(s: &mut [u8], at: usize, name: &[u8])
+    requires { at + length name.now ≤ length s.old }
+    ensures { s.new ≡ put_name s.old at name.now (length name.now) }
+{
+    for i in 0..name.len() {
+        s[at + i] = name[i];
+    }
+}
+
 // Puts a name into a field of n bytes, with zeros after it.
 pub fn put_name(s: &mut [u8], at: usize, n: usize, name: &[u8])
     requires { (at + n ≤ length s.old) × (length name.now ≤ n) }
     ensures { s.new ≡ put_name s.old at name.now n }
 {
-    s[at..at + name.len()].copy_from_slice(name);
+    put_bytes(s, at, name);
     s[at + name.len()..at + n].fill(0);
 }
 
@@ -69,7 +79,9 @@ pub fn copy(out: &mut [u8], src: &[u8])
     requires { length src.now ≤ length out.old }
     ensures { Wrote src.now out.old out.new (length src.now) }
 {
-    out[..src.len()].copy_from_slice(src);
+    for i in 0..src.len() {
+        out[i] = src[i];
+    }
 }
 
 // Writes n zero bytes to the front of out.

@@ -8,6 +8,7 @@ ghost use Rattle.pen.specs.Bytes.{word_bytes, head_bytes, vendor_head, copied, c
 ghost use Rattle.pen.specs.Bytes.{number_bytes, vendor_number, if_there};
 
 use diameter::codes;
+use octets::run;
 
 // "Own AVPs have flags 0x40, or 0xC0 with vendor 10415"
 pub const FLAGS: u8 = 64;
@@ -57,7 +58,7 @@ pub fn put_copy(out: &mut [u8], src: &[u8]) -> usize
 {
     let n = src.len();
     let padded = (n + 3) / 4 * 4;
-    out[..n].copy_from_slice(src);
+    run::copy(out, src);
     out[n..padded].fill(0);
     padded
 }

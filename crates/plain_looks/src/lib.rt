@@ -15,7 +15,7 @@ use reading::{Dialect, Terms, features, kinds};
 use requests::features::Wanted;
 
 // "Session-Id if it is the first AVP and passes (a) to (c)", else nothing.
-pub fn session<'a>(l: &Listed<'a>) -> &'a [u8]
+pub fn session<'a>(l: &Listed<'a, '_>) -> &'a [u8]
     ensures { (result.now ≡ session_of (body_of l.now.req.now)) × (length result.now ≤ length l.now.req.now) }
 {
     let req = l.req;

@@ -16,7 +16,7 @@ ghost use Rattle.plain_reading.specs.Plain.{blamed, taken_of, taken, plain_body,
 ghost use Rattle.plain_reading.specs.Read.{read_as};
 
 use diameter::{Avp, codes, message};
-pub use listed::Listed;
+pub use listed::{Listed, Places};
 use octets::number;
 use reading::{Content, Dialect, Use, Verdict, base, group, kinds};
 
@@ -68,7 +68,7 @@ pub fn header(req: &[u8], d: Dialect) -> Result<(), Verdict>
 }
 
 // Every AVP's place, up to the first whose length is faulty. Answers how many there are. By place: it steps over whole AVPs.
-fn list(req: &[u8], room: &mut [u16; MOST]) -> usize
+pub fn list(req: &[u8], room: &mut [u16; MOST]) -> usize
     requires { length req.now ≤ 16384 }
     ensures { (result ≤ most) × (take result room.new ≡ places_of req.now) }
 {
@@ -83,6 +83,14 @@ fn list(req: &[u8], room: &mut [u16; MOST]) -> usize
         at = a.next;
     }
     n
+}
+
+// The place of a number in the list.
+pub fn place_at(list: &[u16], i: usize) -> usize
+    requires { i < length list.now }
+    ensures { result ≡ get_or list.now i 0 }
+{
+    list[i] as usize
 }
 
 // What the command makes of a kind: it knows none such; it names it; it names it, and "the rest come once".
@@ -185,25 +193,13 @@ fn missing(req: &[u8], d: Dialect, places: [usize; kinds::KINDS]) -> Option<usiz
     (1..kinds::KINDS).find(|&k| lacks(req, d, k, places[k]))
 }
 
-impl<'a> Listed<'a> {
-    // The list of a request's places, in what is lent for it.
-    pub fn new(req: &'a [u8], room: &'a mut [u16; MOST]) -> Listed<'a>
-        requires { length req.now ≤ 16384 }
-        ensures { result.req.now ≡ req.now }
-    {
-        let n = list(req, room);
-        Listed {
-            req,
-            list: &room[..n],
-        }
-    }
-
+impl<'a, 'l> Places<'a, 'l> {
     // The AVP of a number in the list, an error where its length is faulty.
-    pub fn avp(&self, i: usize) -> Result<Avp, usize>
+    fn avp(&self, i: usize) -> Result<Avp, usize>
         requires { i < length self.now.list.now }
         ensures { let place = get_or self.now.list.now i 0 in result ≡ read_of place (drop place self.now.req.now) }
     {
-        diameter::read_avp(self.req, self.list[i] as usize)
+        diameter::read_avp(self.req, place_at(self.list, i))
     }
 
     // The kind of the AVP of a number in the list, 0 where its length is faulty: so no kind that is named.
@@ -315,7 +311,7 @@ impl<'a> Listed<'a> {
         if named(kinds::use_in(d, kinds::row_of(k))) {
             for i in (0..self.list.len()).rev() {
                 if self.kind_at(i) == k {
-                    return self.list[i] as usize;
+                    return place_at(self.list, i);
                 }
             }
         }
@@ -341,7 +337,7 @@ impl<'a> Listed<'a> {
         let first = self.first_fault(d);
         let at = first.at;
         if at < self.list.len() {
-            return Err(blame(first.letter, self.list[at] as usize));
+            return Err(blame(first.letter, place_at(self.list, at)));
         }
         let places = self.taken(d);
         match missing(self.req, d, places) {
@@ -350,12 +346,52 @@ impl<'a> Listed<'a> {
         }
     }
 
-    // A request read by its list: the places of its AVPs by their kinds, or the first fault.
+    // A request read by a list, whatever stands in it: the places of its AVPs by their kinds, or the first fault.
     pub fn read(&self, d: Dialect) -> Result<[usize; kinds::KINDS], Verdict>
         requires { 20 ≤ length self.now.req.now }
         ensures { read_as self.now.req.now result ≡ plain_read d self.now.req.now self.now.list.now }
     {
         header(self.req, d)?;
         self.read_body(d)
+    }
+}
+
+impl<'a, 'l> Listed<'a, 'l> {
+    // The list of a request's places, in what is lent for it.
+    pub fn new(req: &'a [u8], room: &'l mut [u16; MOST]) -> Listed<'a, 'l>
+        requires { length req.now ≤ 16384 }
+        ensures { result.req.now ≡ req.now }
+    {
+        let n = list(req, room);
+        Listed {
+            req,
+            list: &room[..n],
+        }
+    }
+
+    // The same without what is known of the list.
+    fn places(&self) -> Places<'a, 'l>
+        ensures { (result.req.now ≡ self.now.req.now) × (result.list.now ≡ self.now.list.now) }
+    {
+        Places {
+            req: self.req,
+            list: self.list,
+        }
+    }
+
+    // The AVP of a number in the list, an error where its length is faulty.
+    pub fn avp(&self, i: usize) -> Result<Avp, usize>
+        requires { i < length self.now.list.now }
+        ensures { let place = get_or self.now.list.now i 0 in result ≡ read_of place (drop place self.now.req.now) }
+    {
+        self.places().avp(i)
+    }
+
+    // A request read by its list: the places of its AVPs by their kinds, or the first fault.
+    pub fn read(&self, d: Dialect) -> Result<[usize; kinds::KINDS], Verdict>
+        requires { 20 ≤ length self.now.req.now }
+        ensures { read_as self.now.req.now result ≡ plain_read d self.now.req.now self.now.list.now }
+    {
+        self.places().read(d)
     }
 }

@@ -6,6 +6,7 @@ use Rattle.diameter.specs.declared.Avp.{Avp}
 use Rattle.diameter.proofs.Reading.{own_flags}
 use Rattle.reading.specs.declared.Dialect.{Dialect}
 use Rattle.reading.specs.declared.Kind.{Kind}
+use Rattle.reading.specs.declared.Content.{Content}
 use Rattle.reading.specs.declared.Content.TheVariants.{Free}
 use Rattle.reading.specs.declared.Uses.{Uses}
 use Rattle.reading.specs.declared.Use.TheVariants.{Unknown}
@@ -67,7 +68,11 @@ module _ (d : Dialect) (k : Kind) where
     unfolding use_in
     in_mar h g f = rw (ne_eqb _ _ o, ne_eqb _ _ h, ne_eqb _ _ g, ne_eqb _ _ f)
 
--- the row of a number that is no known kind's
+-- the row of a number, made of its uses; and of a number that is no known kind's
+pub row_with : (n k : ℕ) {code vendor : ℕ} {content : Content} {u v : Uses} {r : Kind} → k ≡ n → u ≡ v → r ≡ row code vendor content u
+    → row code vendor content v ≡ row_of n → r ≡ row_of k
+row_with n k {code} {vendor} {content} e h d w = d ∙ ap (row code vendor content) h ∙ w ∙ rw e
+
 above : {n k : ℕ} → n ≤ k → (k ≡ n → ⊥) → suc n ≤ k
 above h e = omega arith
 

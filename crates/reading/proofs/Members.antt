@@ -2,7 +2,7 @@
 use Rattle.std.specs.Prelude.{Result, Ok, Err, is_ok}
 use Rattle.octets.specs.Standard.{inl, inr, ◌⊎◌, refl}
 use Rattle.octets.specs.Standard.{ℕ, ◌+◌, ◌%◌, ◌≤◌, ◌<◌, zero-add, add-zero, arith, ◌≡◌, sym, ap, ◌∙◌, List, Bool, true, false, not, ◌&&◌, and_assoc}
-use Rattle.octets.specs.Standard.{length, get_or, eqb, leb, ltb, lt-leb, le-leb}
+use Rattle.octets.specs.Standard.{length, get_or, get_or-eq_default, eqb, leb, ltb, lt-leb, le-leb}
 use Rattle.octets.specs.All.{all_below}
 use Rattle.diameter.specs.Avp.{avp_code, vendor_of}
 use Rattle.diameter.specs.Reader.{between, read_of, own_of, Here, Spans}
@@ -11,7 +11,7 @@ use Rattle.diameter.specs.declared.Avp.{Avp}
 use Rattle.diameter.specs.declared.Span.{Span}
 use Rattle.diameter.proofs.Reading.{own_flags, read_later}
 use Rattle.diameter.proofs.Parts.{member_walked, member_fault, member_past}
-use Rattle.reading.specs.declared.Content.TheVariants.{Number}
+use Rattle.reading.specs.declared.Content.TheVariants.{Free, Number}
 use Rattle.reading.specs.declared.Dialect.{Dialect}
 use Rattle.reading.specs.declared.Member.{Member}
 use Rattle.reading.specs.declared.group.Group.{Group}
@@ -74,6 +74,18 @@ module _ (application k : ℕ) {r : Member} where
   unfolding application_members
   second_member h f m = let e : k ≡ 1 = omega arith in m ∙ rw e
 
+  pub no_member : (k ≡ 0 → ⊥) → (k ≡ 1 → ⊥) → r ≡ nobody → r ≡ get_or (application_members application) k nobody
+  unfolding application_members
+  no_member e f m = let past : 2 ≤ k = omega arith in m ∙ sym (get_or-eq_default (application_members application) nobody past)
+
+-- 612's and 700's
+module _ (code k : ℕ) {r : Member} where
+  pub only_member : k ≡ 0 → r ≡ member code 10415 Free false → r ≡ get_or (sole_member code) k nobody
+  only_member e m = m ∙ rw e
+
+  pub no_second : (k ≡ 0 → ⊥) → r ≡ nobody → r ≡ get_or (sole_member code) k nobody
+  no_second e m = let past : 1 ≤ k = omega arith in m ∙ sym (get_or-eq_default (sole_member code) nobody past)
+
 -- 628's
 module _ (k : ℕ) {r : Member} where
   pub vendor_member : k ≡ 0 → r ≡ member 266 0 any_number false → r ≡ get_or feature_members k nobody
@@ -87,6 +99,10 @@ module _ (k : ℕ) {r : Member} where
   pub bits_member : k < 3 → (k ≡ 0 → ⊥) → (k ≡ 1 → ⊥) → r ≡ member 630 10415 any_number false → r ≡ get_or feature_members k nobody
   unfolding feature_members
   bits_member h f g m = let e : k ≡ 2 = omega arith in m ∙ rw e
+
+  pub no_fourth : (k ≡ 0 → ⊥) → (k ≡ 1 → ⊥) → (k ≡ 2 → ⊥) → r ≡ nobody → r ≡ get_or feature_members k nobody
+  unfolding feature_members
+  no_fourth e f g m = let past : 3 ≤ k = omega arith in m ∙ sym (get_or-eq_default feature_members nobody past)
 
 not_true : (x : Bool) → not x ≡ true → x ≡ false
 not_true true e = sym e

@@ -7,15 +7,11 @@ ghost use Rattle.reading.specs.Verdicts.{Faulted};
 use crate::{Content, base};
 use diameter::Avp;
 
-// (h) "bad content: B5004"
-fn bad_unless(good: bool) -> Result<(), u32>
-    ensures { Faulted result (fault_unless good 5004) }
+// A fault of a number, where something is not good; 0 is none.
+pub fn fault_unless(good: bool, n: u32) -> Result<(), u32>
+    ensures { Faulted result (fault_unless good n) }
 {
-    if good {
-        Ok(())
-    } else {
-        Err(base::INVALID_AVP_VALUE)
-    }
+    if good | (n == 0) { Ok(()) } else { Err(n) }
 }
 
 // (g) "a 4-byte kind of another length", (h) or one whose number is not within the limits.
@@ -27,7 +23,7 @@ fn number_fault(s: &[u8], a: Avp, least: u32, most: u32) -> Result<(), u32>
         return Err(base::INVALID_AVP_LENGTH);
     }
     let n = diameter::value_of(s, a);
-    bad_unless((least <= n) & (n <= most))
+    fault_unless((least <= n) & (n <= most), base::INVALID_AVP_VALUE)
 }
 
 // (g), (h) The fault of what an AVP holds; a group's members are not looked at.
@@ -39,7 +35,7 @@ pub fn plain_fault(c: Content, s: &[u8], a: Avp) -> Result<(), u32>
         Content::Number(least, most) => number_fault(s, a, least, most),
         Content::Sized(least, most) => {
             let n = a.len - a.head;
-            bad_unless((least <= n) & (n <= most))
+            fault_unless((least <= n) & (n <= most), base::INVALID_AVP_VALUE)
         }
         Content::Free | Content::Members(_) => Ok(()),
     }

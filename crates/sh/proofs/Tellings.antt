@@ -2,6 +2,7 @@
 use Rattle.std.specs.Prelude.{Option, Some, None, Ok, Err}
 use Rattle.octets.specs.Standard.{ℕ, ◌≤◌, List, Bool, true, false, cond, ◌≡◌, refl, ap, arith, length}
 use Rattle.diameter.specs.Message.{body_of}
+use Rattle.lookup.specs.Among.{Among}
 use Rattle.lookup.specs.Find.{find_public}
 use Rattle.lookup.proofs.Among.{public_among}
 use Rattle.reading.specs.Kinds.{user_identity}
@@ -42,6 +43,20 @@ pub read_clear : (req t : List ℕ) (count : ℕ) (seen : Seen)
 unfolding tell_read
 read_clear req t count seen = found_clear (references_of (body_of req)) (find_public t count (identity_of seen))
 
+-- It is told of one of the records or of none.
+record_within : (r : References) (count k : ℕ) → k ≤ count → (tell_record r k).block ≤ count
+unfolding tell_record
+record_within r count k h = go r.other
+  where
+    go : (x : Bool) → (cond x (denied 5100) (record { verdict = fault_of 2001; block = k; asked = r })).block ≤ count
+    go true = omega arith
+    go false = h
+
+found_within : (r : References) (count : ℕ) (f : Option ℕ) → Among count f → (tell_found r f).block ≤ count
+unfolding tell_found
+found_within r count (Some k) a = record_within r count k (a.to k refl)
+found_within r count None a = omega arith
+
 -- The place that is told of any request lies in it.
 pub tell_near : (d : Dialect) (req t : List ℕ) (count : ℕ) → 20 ≤ length req → length req ≤ 16384 → (tell d req t count).verdict.place ≤ 16384
 unfolding tell tell_judged
@@ -50,6 +65,15 @@ tell_near d req t count least most = go (read_sh d req) refl
     go : (j : Judged) → read_sh d req ≡ j → (tell_judged req t count j).verdict.place ≤ 16384
     go (bad v) e = omega (arith, (sh_placed d req v least e).within)
     go (fine seen) e = omega (arith, (read_clear req t count seen).0)
+
+pub tell_bounds : (d : Dialect) (req t : List ℕ) (count : ℕ) → 20 ≤ length req → length req ≤ 16384
+    → ((tell d req t count).block ≤ count) × ((tell d req t count).verdict.place ≤ 16384)
+unfolding tell tell_judged tell_read
+tell_bounds d req t count least most = (go (read_sh d req), tell_near d req t count least most)
+  where
+    go : (j : Judged) → (tell_judged req t count j).block ≤ count
+    go (bad v) = omega arith
+    go (fine seen) = found_within (references_of (body_of req)) count (find_public t count (identity_of seen)) (public_among t count (identity_of seen) refl)
 
 -- What the code leaves of a request: at fault, or read; then its record is looked for, and what it asks.
 module _ (d : Dialect) (req t places : List ℕ) (count : ℕ) (w : Walked) (is : judged_of req places w ≡ read_sh d req) (least : 20 ≤ length req)
@@ -81,8 +105,8 @@ module _ (d : Dialect) (req t places : List ℕ) (count : ℕ) (w : Walked) (is 
       unfolding tell_found tell_record
       other_tells o z = denies _ (rw (tells_found, at, ← asked, o, z))
 
-      pub known_tells : r.other ≡ false → Tells d req t count (Ok (record { block = k; asked = r }))
+      pub known_tells : {v : Verdict} → v ≡ fault_of 2001 → r.other ≡ false → Tells d req t count (Ok (record { verdict = v; block = k; asked = r }))
       unfolding tell_found tell_record
-      known_tells o =
+      known_tells z o =
           let a = public_among t count identity found in
-          record { telling_is = rw (tells_found, at, ← asked, o); within = a.to k at; near = omega arith }
+          rw z (record { telling_is = rw (tells_found, at, ← asked, o); within = a.to k at; near = omega arith })

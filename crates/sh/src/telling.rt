@@ -9,9 +9,10 @@ use reading::{Dialect, Outcome, Verdict, base, experimental, kinds};
 use requests::places;
 use user_data::References;
 
-// The block of the record that is told of, and what was asked of it.
+// A verdict; the block of the record that is told of, 0 for none; what was asked of it.
 #[derive(Clone, Copy)]
 pub struct Told {
+    pub verdict: Verdict,
     pub block: u32,
     pub asked: References,
 }
@@ -21,7 +22,7 @@ pub fn verdict_of(g: Result<Told, Verdict>) -> Verdict
     ensures { result ≡ (telling_of g).verdict }
 {
     match g {
-        Ok(_) => Verdict::of(base::SUCCESS),
+        Ok(told) => told.verdict,
         Err(verdict) => verdict,
     }
 }
@@ -52,5 +53,9 @@ pub fn tell(req: &[u8], t: &[u8], count: usize, d: Dialect) -> Result<Told, Verd
     if asked.other {
         return Err(denial(experimental::USER_DATA_NOT_RECOGNIZED));
     }
-    Ok(Told { block, asked })
+    Ok(Told {
+        verdict: Verdict::of(base::SUCCESS),
+        block,
+        asked,
+    })
 }

@@ -112,7 +112,7 @@ module _ (area : List ℕ) where
     unfolding size_in
     size_is = rw (is, at)
 
-    length_long : take (512 * (n + 1)) area ≡ table_in area
+    pub length_long : take (512 * (n + 1)) area ≡ table_in area
     unfolding table_in
     length_long = ap (λ (m : ℕ). take m area) size_is
 

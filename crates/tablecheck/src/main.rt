@@ -19,11 +19,11 @@ fn room() -> [u8; 2098176]
 
 // How many bytes of the file are past its table, where there are some; none if it cannot be read. It is measured whole, since only its front was read.
 fn say_past(rt: &(impl Files + Print + Eprint), table: usize) -> Option<()> {
-    let size = files::measure(rt, "table")?;
+    let size = files::measure(rt, b"table")?;
     if table < size {
         let mut out = [0u8; 70];
         let n = line::put_past_line(&mut out, (size - table) as u64);
-        files::say(rt, &out[..n]);
+        files::put(rt, &out[..n]);
     }
     Some(())
 }
@@ -31,13 +31,13 @@ fn say_past(rt: &(impl Files + Print + Eprint), table: usize) -> Option<()> {
 // The table's lines; none if a file cannot be read. Of the profile file only the length counts.
 fn check_table(rt: &(impl Files + Print + Eprint)) -> Option<()> {
     let mut space = room();
-    let n = files::load(rt, "table", &mut space)?;
+    let n = files::load(rt, b"table", &mut space)?;
     let t = &space[..n];
-    let size = files::measure(rt, "profile")?;
+    let size = files::measure(rt, b"profile")?;
     let mut out = [0u8; 50];
     let c = table::area::check_area(t, size);
     let n = line::put_line(&mut out, c);
-    files::say(rt, &out[..n]);
+    files::put(rt, &out[..n]);
     match c {
         Ok(_) => say_past(rt, table::area::table_length(t)),
         Err(_) => Some(()),
@@ -47,25 +47,25 @@ fn check_table(rt: &(impl Files + Print + Eprint)) -> Option<()> {
 // The vector file's line; none if it cannot be read.
 fn check_vectors(rt: &(impl Files + Print + Eprint)) -> Option<()> {
     let mut space = room();
-    let n = files::load(rt, "vectors", &mut space)?;
+    let n = files::load(rt, b"vectors", &mut space)?;
     let mut out = [0u8; 50];
     let n = line::put_vectors_line(&mut out, vectors::file::check(&space[..n]));
-    files::say(rt, &out[..n]);
+    files::put(rt, &out[..n]);
     Some(())
 }
 
 // The lines of both files, up to one that cannot be read. A vector file that is not there has no line.
 fn check(rt: &(impl Files + Print + Eprint)) -> Option<()> {
     check_table(rt)?;
-    if files::is_there(rt, "vectors") {
+    if files::is_there(rt, b"vectors") {
         check_vectors(rt)?;
     }
     Some(())
 }
 
-const PROGRAM: Program = Program {
-    name: "tablecheck",
-    help: "usage: tablecheck\nSays whether the file table is sound beside the file profile, and the file vectors where it is there, all of this folder. See tablecheck(1).\n",
+const PROGRAM: Program<'static> = Program {
+    name: b"tablecheck",
+    help: b"usage: tablecheck\nSays whether the file table is sound beside the file profile, and the file vectors where it is there, all of this folder. See tablecheck(1).\n",
 };
 
 fn main(rt: HostRuntime) {

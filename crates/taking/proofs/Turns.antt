@@ -1,18 +1,22 @@
 -- The turns of the loop that writes: after each the area is one that a cut at this moment would leave.
-use Rattle.octets.specs.Standard.{ℕ, suc, ◌+◌, ◌-◌, ◌*◌, ◌<◌, ◌≤◌, ◌≡◌, refl, sym, ◌∙◌, ap, List, ◌++◌, append_assoc, arith, length}
-use Rattle.octets.specs.Standard.{take, drop, take-append-drop, take_all, take_at, drop-drop}
-use Rattle.octets.specs.Standard.{length-take-le, put_mid}
-use Rattle.octets.specs.Run.{over}
+use Rattle.octets.specs.Standard.{ℕ, suc, ◌+◌, ◌-◌, ◌*◌, ◌<◌, ◌≤◌, ◌≡◌, refl, sym, ◌∙◌, ap, List, [], ◌++◌, append_assoc, append-nil, arith, length}
+use Rattle.octets.specs.Standard.{take, drop, length-take, length-drop, drop_of_length-le, take-append-drop, take_all, take_at, drop-drop}
+use Rattle.octets.specs.Standard.{length-take-le, mid_of, put_mid}
+use Rattle.octets.specs.Run.{over, Wrote}
 use Rattle.blocks.specs.Blocks.{block_of, table_of}
 use Rattle.blocks.proofs.Blocks.{block_length, table_front, front_length}
 use Rattle.blocks.proofs.Changed.{block_put, next_changed}
 use Rattle.taking.specs.Written.{Begun, with_block, cut_after}
 
 -- A block of the area, lent and come back.
-pub block_written : (area fresh : List ℕ) (k : ℕ) {b y : List ℕ} → b ≡ block_of fresh k → y ≡ b
-    → put_mid (512 * k) (512 * k + 512 - 512 * k) area y ≡ with_block area fresh k
-unfolding with_block
-block_written area fresh k e f = block_put (λ (c : List ℕ). block_of fresh k) area k (f ∙ e)
+pub block_written : (area fresh : List ℕ) (k : ℕ) {b y : List ℕ} {r : ℕ} → 512 * k + 512 ≤ length area → b ≡ block_of fresh k → length b ≡ 512
+    → Wrote b (mid_of (512 * k) (512 * k + 512 - 512 * k) area) y r → put_mid (512 * k) (512 * k + 512 - 512 * k) area y ≡ with_block area fresh k
+unfolding with_block over
+block_written area fresh k {b} {y} h e whole w =
+    let l : length (mid_of (512 * k) (512 * k + 512 - 512 * k) area) ≤ length b = simp (length-take, length-drop) (omega arith) in
+    let z : drop (length b) (mid_of (512 * k) (512 * k + 512 - 512 * k) area) ≡ [] = drop_of_length-le _ l in
+    let q : y ≡ block_of fresh k = w.bytes ∙ rw z (append-nil b) ∙ e in
+    block_put (λ (c : List ℕ). block_of fresh k) area k q
 
 -- The first k blocks of the new table, of so many.
 pub cut_none : (area fresh : List ℕ) → area ≡ cut_after area fresh 0

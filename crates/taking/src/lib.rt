@@ -7,7 +7,7 @@ ghost use Rattle.taking.specs.TakeOver.{unfit, came, take_over};
 ghost use Rattle.taking.specs.Written.{Begun, with_block};
 
 use blocks::{BLOCK, block};
-use octets::number;
+use octets::{number, run};
 use record::header::Header;
 use record::subscriber::Record;
 
@@ -69,7 +69,7 @@ fn write_block(area: &mut [u8], fresh: &[u8], k: usize)
     ensures { area.new ≡ with_block area.old fresh.now k }
 {
     let at = BLOCK * k;
-    area[at..at + BLOCK].copy_from_slice(block(fresh, k));
+    run::copy(&mut area[at..at + BLOCK], block(fresh, k));
 }
 
 // Writes every block in turn, one call each. The contract says what the area is at the end; that after k turns the first k blocks are the new table's and all

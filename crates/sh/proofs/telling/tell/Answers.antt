@@ -17,4 +17,4 @@ returns-then-asked c = search (rules, other_tells)
 pub returns : goal.returns
 returns c =
     known_tells _ _ _ _ _ _ c.read_sh.ensures c.requires.0 c.requires.1 _ c.in_ok-read_sh.was _ c.member_of-identity.ensures.0 _ c.find_public.ensures _ c.in-Some.is
-    _ c.references_of-asked.ensures c.if-asked.false
+    _ c.references_of-asked.ensures c.of.ensures c.if-asked.false
