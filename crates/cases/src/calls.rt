@@ -4,7 +4,7 @@ use streams::outcome;
 
 fn check(rt: &impl Print, case: &Case) -> bool {
     let word = ndushavire::ndushavire_check(case.slice(0), case.slice(1));
-    outcome::put(rt, word, &[])
+    outcome::put_all(rt, word, &[])
 }
 
 fn decide(rt: &impl Print, case: &Case) -> bool {
@@ -20,12 +20,12 @@ fn decide(rt: &impl Print, case: &Case) -> bool {
         case.number(5),
         case.number(6),
     );
-    outcome::put(rt, word, &[&table, &vectors, &buffer])
+    outcome::put_all(rt, word, &[&table, &vectors, &buffer])
 }
 
 fn check_vectors(rt: &impl Print, case: &Case) -> bool {
     let word = ndushavire::ndushavire_check_vectors(case.slice(0));
-    outcome::put(rt, word, &[])
+    outcome::put_all(rt, word, &[])
 }
 
 fn report(rt: &impl Print, case: &Case) -> bool {
@@ -43,31 +43,31 @@ fn report(rt: &impl Print, case: &Case) -> bool {
         case.number(6),
         case.number(7),
     );
-    outcome::put(rt, word, &[&table, &vectors, &buffer, &area])
+    outcome::put_all(rt, word, &[&table, &vectors, &buffer, &area])
 }
 
 fn forward(rt: &impl Print, case: &Case) -> bool {
     let mut table = case.lend(0);
     let word = ndushavire::ndushavire_forward(table.bytes(), case.slice(1), case.number(2));
-    outcome::put(rt, word, &[&table])
+    outcome::put_all(rt, word, &[&table])
 }
 
 fn back(rt: &impl Print, case: &Case) -> bool {
     let mut table = case.lend(0);
     let word = ndushavire::ndushavire_back(table.bytes(), case.slice(1));
-    outcome::put(rt, word, &[&table])
+    outcome::put_all(rt, word, &[&table])
 }
 
 fn take(rt: &impl Print, case: &Case) -> bool {
     let mut area = case.lend(0);
     let word = ndushavire::ndushavire_take(area.bytes(), case.slice(1), case.slice(2));
-    outcome::put(rt, word, &[&area])
+    outcome::put_all(rt, word, &[&area])
 }
 
 fn export(rt: &impl Print, case: &Case) -> bool {
     let mut list = case.lend(2);
     let word = ndushavire::ndushavire_export(case.slice(0), case.slice(1), list.bytes());
-    outcome::put(rt, word, &[&list])
+    outcome::put_all(rt, word, &[&list])
 }
 
 fn import(rt: &impl Print, case: &Case) -> bool {
@@ -78,7 +78,7 @@ fn import(rt: &impl Print, case: &Case) -> bool {
         case.slice(2),
         table.bytes(),
     );
-    outcome::put(rt, word, &[&table])
+    outcome::put_all(rt, word, &[&table])
 }
 
 fn sh_decide(rt: &impl Print, case: &Case) -> bool {
@@ -90,7 +90,7 @@ fn sh_decide(rt: &impl Print, case: &Case) -> bool {
         buffer.bytes(),
         case.number(4),
     );
-    outcome::put(rt, word, &[&buffer])
+    outcome::put_all(rt, word, &[&buffer])
 }
 
 // Calls an entry by its number in the streams.

@@ -3,6 +3,8 @@
 pub mod answer;
 pub mod references;
 pub mod telling;
+#[cfg(test)]
+mod tests;
 
 ghost use Rattle.std.specs.Prelude.{◌≤◌};
 ghost use Rattle.refusals.specs.Passed.{Passed};

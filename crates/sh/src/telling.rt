@@ -1,5 +1,6 @@
 // What is told: of a success the record and what was asked of it, else the verdict.
-ghost use Rattle.std.specs.Prelude.{◌≡◌, ◌≤◌, length};
+ghost use Rattle.std.specs.Prelude.{◌≡◌, ◌≤◌, length, IfOk};
+ghost use Rattle.reading.specs.Verdicts.{fault_of};
 ghost use Rattle.table.specs.SoundTable.{SoundTable};
 ghost use Rattle.sh.specs.Replies.{Tells};
 ghost use Rattle.sh.specs.Tell.{telling_of, denial};
@@ -41,7 +42,8 @@ fn denial(n: u32) -> Verdict
 // What a request comes to: "unknown identity X5001, then any other data reference X5100".
 pub fn tell(req: &[u8], t: &[u8], count: usize, d: Dialect) -> Result<Told, Verdict>
     requires { (20 ≤ length req.now) × (length req.now ≤ 16384) × SoundTable t.now count }
-    ensures { Tells d req.now t.now count result }
+    ensures tells { Tells d req.now t.now count result }
+    ensures success { IfOk result (λ told. told.verdict ≡ fault_of 2001) }
 {
     let mut found = [0; kinds::KINDS];
     requests::read_sh(req, d, &mut found)?;

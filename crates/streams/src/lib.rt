@@ -4,6 +4,8 @@
 pub mod case;
 mod noise;
 pub mod outcome;
+#[cfg(test)]
+mod tests;
 
 // Fills out from standard input, if that has as many bytes more.
 pub fn fill(rt: &(impl Input + Eprint), out: &mut [u8]) -> Option<()> {

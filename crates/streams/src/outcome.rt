@@ -1,8 +1,10 @@
 // An outcome: the word, that nothing was altered that may not be, and what changed in each slice that is written to, from the first
 // changed byte to the last.
-ghost use Rattle.std.specs.Prelude.{◌≡◌, ◌≤◌, length, take};
+ghost use Rattle.std.specs.Prelude.{◌≡◌, ◌≤◌, ◌<◌, length, take, IfOk};
 
 use octets::number;
+use std::io;
+use std::io::ErrorKind;
 
 // A slice of a case that an entry writes to: as it was, and in a copy as it is.
 #[derive(Drop)]
@@ -53,6 +55,16 @@ impl<'a> Lent<'a> {
     fn put_change(&self, rt: &impl Print) -> bool {
         put_change(rt, self.before, &self.space)
     }
+
+    // The same, up to the first write that fails.
+    fn try_change(&self, rt: &impl Print) -> io::Result<()> {
+        let after = &self.space[..self.before.len()];
+        let first = first_change(self.before, after);
+        let past = past_change(self.before, after, first);
+        rt.write_all(&(first as u32).to_be_bytes())?;
+        rt.write_all(&((past - first) as u32).to_be_bytes())?;
+        rt.write_all(&after[first..past])
+    }
 }
 
 // The first byte that changed; 0 if none did. By index, as below: the iterators of two slices take twice as long.
@@ -95,8 +107,22 @@ pub fn put_change(rt: &impl Print, before: &[u8], after: &[u8; 40000]) -> bool {
     rt.write_all(&head).is_ok() & rt.write_all(&after[first..past]).is_ok()
 }
 
-// Writes the word, four bytes of zeros, since nothing here could alter what is lent to be read, how many changes there are, and the changes.
-pub fn put(rt: &impl Print, word: u64, lent: &[&Lent]) -> bool {
+// Writes the word, four bytes of zeros, since nothing here could alter what is lent to be read, how many changes there are, and the changes, up to the
+// first write that fails, whose error is answered. Where there are more changes than a byte can tell, nothing is written.
+pub fn put(rt: &impl Print, word: u64, lent: &[&Lent]) -> io::Result<()>
+    ensures { IfOk result (λ u. length lent.now < 256) }
+{
+    let changes = u8::try_from(lent.len()).map_err(|_| ErrorKind::InvalidInput)?;
+    rt.write_all(&word.to_be_bytes())?;
+    rt.write_all(&[0, 0, 0, 0, changes])?;
+    for slice in lent {
+        slice.try_change(rt)?;
+    }
+    Ok(())
+}
+
+// Writes the same, and what follows a write that failed too. Answers whether all was written.
+pub fn put_all(rt: &impl Print, word: u64, lent: &[&Lent]) -> bool {
     let Ok(changes) = u8::try_from(lent.len()) else {
         return false;
     };
