@@ -82,18 +82,33 @@ fn put_writes_the_outcome(rt: HostRuntime) {
     assert_eq!(rt; other.bytes.into_inner(), WHOLE);
 }
 
-// After a write that failed `put` writes nothing, and `put_all` what is left.
+// Of the word, the zeros with the number, and of a change its place, its size and its bytes: each write in turn fails, and none follows.
 #[test]
 fn put_says_what_failed(rt: HostRuntime) {
-    let (lent, pipe, other) = (changed(), Pipe::new(3), Pipe::new(2));
-    let failed = put(&pipe, WORD, &[&lent, &lent]).err();
-    assert_eq!(rt;
-        failed.map(|error| error.kind()),
-        Some(ErrorKind::StorageFull)
-    );
-    assert_eq!(rt; pipe.size.get(), 13);
-    assert!(rt; !put_all(&other, WORD, &[&lent, &lent]));
-    assert_eq!(rt; other.size.get(), 25);
+    let lent = changed();
+    for (fails, size) in [(1, 0), (2, 8), (3, 13), (4, 17), (5, 21)] {
+        let pipe = Pipe::new(fails);
+        let failed = put(&pipe, WORD, &[&lent, &lent]).err();
+        assert_eq!(rt;
+            failed.map(|error| error.kind()),
+            Some(ErrorKind::StorageFull)
+        );
+        assert_eq!(rt; pipe.size.get(), size);
+    }
+}
+
+// Of the head, and of a change its head and its bytes: each write in turn fails, and the others are written.
+#[test]
+fn put_all_goes_on(rt: HostRuntime) {
+    let lent = changed();
+    for (fails, size) in [(1, 10), (2, 15), (3, 21)] {
+        let pipe = Pipe::new(fails);
+        assert!(rt; !put_all(&pipe, WORD, &[&lent]));
+        assert_eq!(rt; pipe.size.get(), size);
+    }
+    let pipe = Pipe::new(2);
+    assert!(rt; !put_all(&pipe, WORD, &[&lent, &lent]));
+    assert_eq!(rt; pipe.size.get(), 25);
 }
 
 #[test]
