@@ -5,7 +5,7 @@ use std::fmt::Display;
 use std::io;
 use std::io::ErrorKind;
 
-// Takes every write but the one of a number, and keeps the bytes.
+// Takes every write but one, which it refuses, and keeps the first 32 bytes.
 #[derive(Drop)]
 struct Pipe {
     fails: u32,
@@ -82,7 +82,7 @@ fn put_writes_the_outcome(rt: HostRuntime) {
     assert_eq!(rt; other.bytes.into_inner(), WHOLE);
 }
 
-// Of the word, the zeros with the number, and of a change its place, its size and its bytes: each write in turn fails, and none follows.
+// The writes are the word, the zeros with the number, and of a change its place, its size and its bytes. Each fails in turn, and nothing follows it.
 #[test]
 fn put_says_what_failed(rt: HostRuntime) {
     let lent = changed();
@@ -97,7 +97,7 @@ fn put_says_what_failed(rt: HostRuntime) {
     }
 }
 
-// Of the head, and of a change its head and its bytes: each write in turn fails, and the others are written.
+// The writes are the head, and of a change its head and its bytes. Each fails in turn, and the others are written.
 #[test]
 fn put_all_goes_on(rt: HostRuntime) {
     let lent = changed();
